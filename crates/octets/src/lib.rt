@@ -1,0 +1,3 @@
+// Words, longs and check words in runs of bytes.
+pub mod check;
+pub mod words;
