@@ -1,4 +1,5 @@
 pub mod Fields
 pub mod Headers
+pub mod Judgements
 pub mod Packets
 pub mod Types
