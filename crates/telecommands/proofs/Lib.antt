@@ -1,3 +1,4 @@
+pub mod Bounds
 pub mod Filling
 pub mod Order
 pub mod Places

@@ -1,5 +1,6 @@
 // Reading a packet: what it says, or the first refusal that applies.
 ghost use mathlib.Core.Path.{_≡_};
+ghost use Rattle.telecommands.specs.Cases.{Length-cases};
 ghost use Rattle.telecommands.specs.Headers.{wrongPlace};
 ghost use Rattle.telecommands.specs.Judgements.{checks, First-failing, Fields-in-place};
 ghost use Rattle.telecommands.specs.Packets.{typed, headed, readPacket};
@@ -83,6 +84,7 @@ pub fn read_packet(packet: &[u8]) -> Result<Packet, Refusal>
     ensures answer { λ r. ⌜ r ≡ readPacket (now (packet .entry)) ⌝ }
     ensures refused_by_first_failing_check { λ r. ⌜ First-failing (checks (now (packet .entry))) r ⌝ }
     ensures fields_in_place { λ r. ⌜ Fields-in-place (now (packet .entry)) r ⌝ }
+    ensures length_cases { λ r. ⌜ Length-cases (now (packet .entry)) r ⌝ }
 {
     judge_packet(packet)
 }
