@@ -61,10 +61,10 @@ Settings-in-place p settings =
 
 abbrev pub Telecommand-in-place : List ℕ → Telecommand → Type 0
 Telecommand-in-place p Test = Typed p 17 1 12
-Telecommand-in-place p (Perform function activity structure value) =
-    Typed p 8 4 20 × (function ≡ getD p 10 0) × (activity ≡ getD p 11 0) × (structure ≡ wordAt p 12) × (value ≡ longAt p 14)
-Telecommand-in-place p (Load id parameters steps) =
-    Typed p 18 1 (16 + 8 * steps .count) × (id ≡ wordAt p 10) × (parameters ≡ wordAt p 12) × Steps-in-place p steps
+Telecommand-in-place p (Perform function activity sid value) =
+    Typed p 8 4 20 × (function ≡ getD p 10 0) × (activity ≡ getD p 11 0) × (sid ≡ wordAt p 12) × (value ≡ longAt p 14)
+Telecommand-in-place p (Load id nop steps) =
+    Typed p 18 1 (16 + 8 * steps .count) × (id ≡ wordAt p 10) × (nop ≡ wordAt p 12) × Steps-in-place p steps
 Telecommand-in-place p (Delete id) = Typed p 18 2 14 × (id ≡ wordAt p 10)
 Telecommand-in-place p (Start id settings) = Typed p 18 3 (16 + 6 * settings .count) × (id ≡ wordAt p 10) × Settings-in-place p settings
 Telecommand-in-place p (Stop id) = Typed p 18 4 14 × (id ≡ wordAt p 10)

@@ -57,12 +57,12 @@ pub fn telecommand_in(packet_type: PacketType, packet: &[u8]) -> Telecommand
         PacketType::FunctionActivity => Telecommand::Perform {
             function: byte_at(packet, 10),
             activity: byte_at(packet, 11),
-            structure: word_at(packet, 12),
+            sid: word_at(packet, 12),
             value: long_at(packet, 14),
         },
         PacketType::ProcedureLoad => Telecommand::Load {
             id,
-            parameters: word_at(packet, 12),
+            nop: word_at(packet, 12),
             steps: steps_in(packet),
         },
         PacketType::ProcedureDelete => Telecommand::Delete { id },

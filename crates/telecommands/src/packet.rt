@@ -36,13 +36,13 @@ pub enum Telecommand {
     Perform {
         function: u8,
         activity: u8,
-        structure: u16,
+        sid: u16,
         value: u32,
     },
-    /// Service 18, subtype 1: loads a procedure with so many parameters.
+    /// Service 18, subtype 1: loads a procedure with NoP parameters.
     Load {
         id: u16,
-        parameters: u16,
+        nop: u16,
         steps: Steps,
     },
     /// Service 18, subtype 2: deletes a procedure.

@@ -8,4 +8,4 @@ pub returns : need.returns
 returns c =
     let third = simp add-zero at (largest-place (c .args .bytes .now) (c .args .at + 2) 0 (omega arith)) in
     let fourth = largest-place (c .args .bytes .now) (c .args .at + 2) 1 (omega arith) in
-    record { high-word-first = cc }
+    record { two-words = cc }

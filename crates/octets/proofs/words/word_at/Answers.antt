@@ -7,4 +7,4 @@ use Rattle.octets.proofs.words.word_at.Needs as need
 pub returns : need.returns
 returns c =
     let low = simp add-zero at (largest-place (c .args .bytes .now) (c .args .at + 1) 0 (omega arith)) in
-    record { high-byte-first = cc }
+    record { two-bytes = cc }
