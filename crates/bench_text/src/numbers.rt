@@ -1,5 +1,7 @@
 // Decimal numbers and runs of bytes in hexadecimal.
 ghost use mathlib.Core.Path.{_≡_};
+ghost use Prim.Native.Nat.{_<_};
+ghost use Rattle.std.specs.Options.{Cases};
 ghost use Rattle.std.specs.Vec.{made};
 ghost use Rattle.bench_text.specs.Numbers.{digitStep, numberOf, hexDigit, hexPair, bytesOf, runOf};
 use crate::words::is_blank;
@@ -40,6 +42,7 @@ pub fn number(word: &[u8]) -> Option<u32>
 /// A hexadecimal digit of either case.
 fn hex_digit(byte: u8) -> Option<u8>
     ensures either_case { λ r. ⌜ r ≡ hexDigit byte ⌝ }
+    ensures below_16 { λ r. ⌜ Cases r (Unit {0}) (λ digit. digit < 16) ⌝ }
 {
     match byte {
         b'0'..=b'9' => Some(byte - b'0'),
