@@ -1,6 +1,6 @@
 // Why a call is refused. A refused call changes nothing.
 
-#[derive(Clone, Copy, PartialEq, Eq, Debug)]
+#[derive(Clone, Copy)]
 pub enum Refusal {
     /// Too few bytes for a packet.
     Short { length: u32 },

@@ -15,7 +15,7 @@ pub struct Steps {
 }
 
 /// A value for one parameter of a procedure.
-#[derive(Clone, Copy, PartialEq, Eq, Debug)]
+#[derive(Clone, Copy)]
 pub struct Setting {
     pub id: u16,
     pub value: u32,
