@@ -1,0 +1,5 @@
+// Links to the units: what a link means, and the kinds wire and processor.
+pub mod answers;
+pub mod link;
+pub mod processor;
+pub mod wire;
