@@ -1,0 +1,10 @@
+use mathlib.Core.Path.{_≡_, ap, _∙_}
+use Rattle.links.specs.Polls.{polledTimes}
+use Rattle.links.specs.Processors.{ProcessorState, processorKind}
+use Rattle.links.proofs.examples.processor_answers.Needs as need
+
+pub returns : need.returns
+unfolding polledTimes
+returns c =
+    let from = ap (λ (s : ProcessorState). processorKind .means (polledTimes processorKind 3 (processorKind .offered s (c .args .command))) .due) (c .new .ensures .idle-with-nothing-taken) in
+    record { the-fourth-poll-answers = c .reply-after .ensures .by-its-kind ∙ from }

@@ -1,0 +1,3 @@
+pub mod Plays
+pub mod Scripted
+pub mod Scripts
