@@ -4,3 +4,6 @@ mod link_tests;
 pub mod patience;
 pub mod script;
 pub mod scripted;
+#[cfg(test)]
+mod watch_tests;
+pub mod wide;

@@ -1,0 +1,4 @@
+pub mod Examples
+pub mod Kinds
+pub mod Meaning
+pub mod Pairs
