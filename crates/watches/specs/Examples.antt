@@ -32,6 +32,7 @@ newWatch = record {
   };
 }
 
+-- the three answers
 abbrev pub refused : Option Bool
 refused = None
 

@@ -18,6 +18,7 @@ oneFunction S bad next = record {
   seen = λ s f v. cond (within 1 f) (next s v) s;
 }
 
+-- Still and Moving begin good
 abbrev pub nothingSeen : LastSeen
 nothingSeen = record { value = None; trouble = false }
 
@@ -26,26 +27,29 @@ abbrev pub comparing : (Option ℕ → ℕ → Bool) → WatchKind
 comparing rule =
     oneFunction LastSeen (λ s. s .trouble) (λ s v. record { value = Some v; trouble = rule (s .value) v })
 
--- the first value does not differ from one before it
+-- whether a value differs from the one just before it; the first value does not
 abbrev pub differs : Option ℕ → ℕ → Bool
 differs None v = false
 differs (Some before) v = not (eqb v before)
 
--- the first value does not repeat one before it
+-- whether a value equals the one just before it; the first value does not
 abbrev pub repeats : Option ℕ → ℕ → Bool
 repeats None v = false
 repeats (Some before) v = eqb v before
 
+-- in trouble when a value differs from the one just before it
 abbrev pub stillKind : WatchKind
 stillKind = comparing differs
 
+-- in trouble when a value equals the one just before it
 abbrev pub movingKind : WatchKind
 movingKind = comparing repeats
 
--- both limits are inside
+-- whether a value is between the limits; both limits are inside
 abbrev pub inside : Band → ℕ → Bool
 inside band v = leb (band .lowest) v && leb v (band .highest)
 
+-- in trouble when a value is not inside; the limits stay
 abbrev pub bandKind : WatchKind
 bandKind =
     oneFunction Band (λ s. s .trouble)

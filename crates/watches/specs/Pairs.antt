@@ -6,7 +6,7 @@ use Rattle.watches.specs.declared.part.Part.{Part}
 use Rattle.watches.specs.declared.part.Part.the-variants.{Left, Right, Neither}
 use Rattle.watches.specs.Meaning.{within, WatchKind}
 
--- the width of a pair, by the widths of its parts
+-- the width of a pair, by the widths of its parts: their sum, at most 23
 abbrev pub pairWidth : ℕ → ℕ → ℕ
 pairWidth left right = min (left + right) 23
 
@@ -14,6 +14,7 @@ pairWidth left right = min (left + right) 23
 abbrev pub partOf : ℕ → ℕ → ℕ → Part
 partOf left right f = cond (within (pairWidth left right) f) (cond (leb f left) (Left f) (Right (f - left))) Neither
 
+-- the state of a function is its state in the part
 abbrev pub pairTrouble : (L R : WatchKind) → (L .State × R .State) → Part → Bool
 pairTrouble L R s (Left f) = L .trouble (s .0) f
 pairTrouble L R s (Right f) = R .trouble (s .1) f
@@ -25,6 +26,7 @@ pairSeen L R s (Left f) v = (L .seen (s .0) f v, s .1)
 pairSeen L R s (Right f) v = (s .0, R .seen (s .1) f v)
 pairSeen L R s Neither v = s
 
+-- a kind of any two kinds; its state is the two states
 abbrev pub pairKind : WatchKind → WatchKind → WatchKind
 pairKind L R = record {
   State = L .State × R .State;

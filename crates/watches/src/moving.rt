@@ -1,6 +1,6 @@
 // Moving: in trouble when a value equals the one just before it.
 ghost use mathlib.Core.Path.{_≡_};
-ghost use Rattle.watches.specs.Kinds.{nothingSeen, repeats as repeatsIt, movingKind};
+ghost use Rattle.watches.specs.Kinds.{nothingSeen, repeats, movingKind};
 use crate::last_seen::LastSeen;
 use crate::watch::Watch;
 
@@ -19,8 +19,8 @@ impl Moving {
     }
 }
 
-fn repeats(before: Option<u32>, value: u32) -> bool
-    ensures not_the_first { λ r. ⌜ r ≡ repeatsIt before value ⌝ }
+fn is_repeated(before: Option<u32>, value: u32) -> bool
+    ensures not_the_first { λ r. ⌜ r ≡ repeats before value ⌝ }
 {
     match before {
         Some(before) => value == before,
@@ -42,7 +42,7 @@ pub impl Watch for Moving as MovingWatch {
     }
 
     fn see(&mut self, function: u32, value: u32) -> Option<bool> {
-        let trouble = repeats(self.last.value, value);
+        let trouble = is_repeated(self.last.value, value);
         self.last.remember(function, value, trouble)
     }
 }

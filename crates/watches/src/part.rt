@@ -3,6 +3,7 @@ ghost use mathlib.Core.Path.{_≡_};
 ghost use Rattle.watches.specs.Pairs.{pairWidth, partOf};
 use crate::watch::has_function;
 
+/// No watch has more functions.
 const WIDEST: u32 = 23;
 
 /// The part that has a function of a pair, with the function's number there.

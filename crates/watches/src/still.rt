@@ -1,6 +1,6 @@
 // Still: in trouble when a value differs from the one just before it.
 ghost use mathlib.Core.Path.{_≡_};
-ghost use Rattle.watches.specs.Kinds.{nothingSeen, differs as differsFrom, stillKind};
+ghost use Rattle.watches.specs.Kinds.{nothingSeen, differs, stillKind};
 use crate::last_seen::LastSeen;
 use crate::watch::Watch;
 
@@ -19,8 +19,8 @@ impl Still {
     }
 }
 
-fn differs(before: Option<u32>, value: u32) -> bool
-    ensures not_the_first { λ r. ⌜ r ≡ differsFrom before value ⌝ }
+fn is_changed(before: Option<u32>, value: u32) -> bool
+    ensures not_the_first { λ r. ⌜ r ≡ differs before value ⌝ }
 {
     match before {
         Some(before) => value != before,
@@ -42,7 +42,7 @@ pub impl Watch for Still as StillWatch {
     }
 
     fn see(&mut self, function: u32, value: u32) -> Option<bool> {
-        let trouble = differs(self.last.value, value);
+        let trouble = is_changed(self.last.value, value);
         self.last.remember(function, value, trouble)
     }
 }

@@ -1,0 +1,11 @@
+pub mod Balancing
+pub mod Calling
+pub mod Counting
+pub mod Draining
+pub mod Offers
+pub mod Prices
+pub mod Refusing
+pub mod Running
+pub mod Submitting
+pub mod Ticking
+pub mod Turning

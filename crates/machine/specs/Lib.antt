@@ -1,0 +1,9 @@
+pub mod Balance
+pub mod Calls
+pub mod Cases
+pub mod Desks
+pub mod Laws
+pub mod Machine
+pub mod Procedures
+pub mod Runs
+pub mod Seats
