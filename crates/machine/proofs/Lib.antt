@@ -1,8 +1,10 @@
+pub mod Adding
 pub mod Balancing
 pub mod Calling
 pub mod Counting
 pub mod Draining
 pub mod Offers
+pub mod Ordering
 pub mod Prices
 pub mod Refusing
 pub mod Running

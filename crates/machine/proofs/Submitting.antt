@@ -48,16 +48,16 @@ pub record Same (d : Desk) (o : Outcome) : Type 0 where
   pub log : o .desk .log ≡ d .log
   pub run : o .desk .run ≡ d .run
 
-setting-same : (width : ℕ) (d : Desk) (activity sid value : ℕ) → Same d (setting width d activity sid value)
+pub setting-same : (width : ℕ) (d : Desk) (activity sid value : ℕ) → Same d (setting width d activity sid value)
 setting-same width d activity sid value = record { log = grind (arith, tells); run = grind (arith, tells) }
 
-loading-same : (width : ℕ) (d : Desk) (id nop : ℕ) (s : Steps) → Same d (loading width d id nop s)
+pub loading-same : (width : ℕ) (d : Desk) (id nop : ℕ) (s : Steps) → Same d (loading width d id nop s)
 loading-same width d id nop s = record { log = grind (arith, tells); run = grind (arith, tells) }
 
-deleting-same : (d : Desk) (id : ℕ) → Same d (deleting d id)
+pub deleting-same : (d : Desk) (id : ℕ) → Same d (deleting d id)
 deleting-same d id = record { log = grind (arith, tells); run = grind (arith, tells) }
 
-writing-same : (d : Desk) (id : ℕ) (p : Procedure) (s : Settings) → Same d (writing d id p s)
+pub writing-same : (d : Desk) (id : ℕ) (p : Procedure) (s : Settings) → Same d (writing d id p s)
 writing-same d id p s = record { log = grind (arith, tells); run = grind (arith, tells) }
 
 setting-loaded-same : (p : Option Procedure) (d : Desk) (id : ℕ) (s : Settings) → Same d (settingLoaded p d id s)
@@ -67,7 +67,7 @@ setting-loaded-same (Some p) d id s = writing-same d id p s
 chosen : (d : Desk) (b : Bool) (x y : Outcome) → Same d x → Same d y → Same d (cond b x y)
 chosen d b x y p q = cond-both b x y (Same d) (λ e. p) (λ e. q)
 
-parameters-same : (d : Desk) (id : ℕ) (s : Settings) → Same d (settingParameters d id s)
+pub parameters-same : (d : Desk) (id : ℕ) (s : Settings) → Same d (settingParameters d id s)
 parameters-same d id s =
     chosen d (isProcedure id) (settingLoaded (procedureAt d id) d id s) (failed d InvalidProcedure id) (setting-loaded-same (procedureAt d id) d id s)
     (record { log = refl; run = refl })
@@ -96,7 +96,7 @@ starting-loaded-free (Some p) d id s =
     (λ e. failed-free d RunningProcedure (idOf (d .run)))
     (λ e. record { same = writing-same d id p s; free = λ f. e })
 
-starting-free : (d : Desk) (id : ℕ) (s : Settings) → Started-free d (starting d id s)
+pub starting-free : (d : Desk) (id : ℕ) (s : Settings) → Started-free d (starting d id s)
 starting-free d id s =
     cond-both (isProcedure id) (startingLoaded (procedureAt d id) d id s) (failed d InvalidProcedure id) (Started-free d)
     (λ e. starting-loaded-free (procedureAt d id) d id s)

@@ -101,14 +101,14 @@ pub record Bench-cases : Type 0 where
   pub trigger-to-an-off-link : reportsAfter (submit trigger1 ∷ []) ≡ told 1 (Failed 0 (faultOf UnitStopped 0)) ∷ []
   -- twenty ticks without a reply
   pub unanswered : reportsAfter (triggered ++ ticks 20) ≡ told 3 (Failed 1 (faultOf NoAck 0)) ∷ []
-  -- a reply that the twentieth tick polls is in time
+  -- a reply that the twentieth tick polls is in time, not too late
   pub answered-in-the-last-tick : reportsAfter (triggered ++ ticks 19 ++ deliver 0 (0x00 ∷ 0x84 ∷ []) ∷ tick ∷ []) ≡ told 3 (Done 1) ∷ []
   pub nothing-after-nineteen : reportsAfter (triggered ++ ticks 19) ≡ []
-  -- a NACK stops all three links
+  -- a NACK's code and detail are reported, and the stopped link blocks the others too, not only itself
   pub turned-down :
       reportsAfter (triggered ++ deliver 0 (0x00 ∷ 0xF4 ∷ 0x00 ∷ 0xA7 ∷ 0x00 ∷ 0x00 ∷ 0x00 ∷ 0x22 ∷ []) ∷ tick ∷ submit trigger2 ∷ [])
       ≡ told 3 (Failed 1 (nackFault 0 0x00A7 34)) ∷ told 4 (Failed 0 (faultOf UnitStopped 1)) ∷ []
-  -- parameters before an illegal one stay written
+  -- a start that failed at an illegal parameter has written those before it
   pub illegal-parameter :
       reportsAfter (submit loadThree ∷ submit setThree ∷ submit startThree ∷ [])
       ≡ told 1 (Done 0) ∷ told 2 (Done 0) ∷ told 3 (Failed 0 (faultOf IllegalParameterId 22)) ∷ []

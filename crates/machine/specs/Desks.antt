@@ -87,6 +87,11 @@ raisedOn d e = withLog d (raisedIn (d .log) e)
 abbrev pub statusAt : Desk → ℕ → LinkStatus
 statusAt d link = getD (d .statuses) link Off
 
+abbrev pub statusNumber : LinkStatus → ℕ
+statusNumber Off = 0
+statusNumber On = 1
+statusNumber Stopped = 2
+
 abbrev pub isOff : LinkStatus → Bool
 isOff Off = true
 isOff On = false

@@ -7,3 +7,4 @@ pub mod Machine
 pub mod Procedures
 pub mod Runs
 pub mod Seats
+pub mod Written

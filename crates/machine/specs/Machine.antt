@@ -343,3 +343,23 @@ module _ {K0 K1 K2 : LinkKind} {W : WatchKind} where
 
   abbrev pub afterCollect : Machine K0 K1 K2 W → Machine K0 K1 K2 W
   afterCollect m = withDesk m (withLog (m .desk) (collectedFrom (m .desk .log .events) (m .desk .log .reports) (m .desk .log)))
+
+  -- QUESTIONS, which change nothing
+
+  -- what a link would send now; nothing above link 2
+  abbrev pub messageOf : Machine K0 K1 K2 W → ℕ → List ℕ
+  messageOf m link =
+      cond (eqb link 0) (K0 .message (m .seat0 .link))
+      (cond (eqb link 1) (K1 .message (m .seat1 .link)) (cond (eqb link 2) (K2 .message (m .seat2 .link)) []))
+
+  -- a link's status; off above link 2
+  abbrev pub statusOf : Machine K0 K1 K2 W → ℕ → LinkStatus
+  statusOf m link = statusAt (m .desk) link
+
+  -- whether a function is in trouble; outside the width none is
+  abbrev pub inTrouble : Machine K0 K1 K2 W → ℕ → Bool
+  inTrouble m f = W .trouble (m .watch) f
+
+  -- whether a function is set on; outside the width none is
+  abbrev pub isSetOn : Machine K0 K1 K2 W → ℕ → Bool
+  isSetOn m f = within (widthOf m) f && isOn (m .desk) f

@@ -1,5 +1,6 @@
 // The balance over every run, and laws of the machine, each a theorem on any links and watch.
 ghost use Rattle.machine.specs.Laws.{Runs-balance, Waiting-is-handed-out, Refusals-change-nothing, Refusals-can-be-struck, Sent-keeps-counting};
+ghost use Rattle.machine.specs.Written.{Reports-in-order};
 use links::link::Link;
 use watches::watch::Watch;
 
@@ -19,6 +20,13 @@ pub fn waiting_is_handed_out<A: Link, B: Link, C: Link, W: Watch>() -> u8
 pub fn refusals_change_nothing<A: Link, B: Link, C: Link, W: Watch>() -> u8
     ensures machine_as_it_was { λ _. ⌜ Refusals-change-nothing (A·Link .kind) (B·Link .kind) (C·Link .kind) (W·Watch .kind) ⌝ }
     ensures can_be_struck { λ _. ⌜ Refusals-can-be-struck (A·Link .kind) (B·Link .kind) (C·Link .kind) (W·Watch .kind) ⌝ }
+{
+    0
+}
+
+/// A call only adds reports behind those that there are, and every fault has the class of the table.
+pub fn reports_in_order<A: Link, B: Link, C: Link, W: Watch>() -> u8
+    ensures as_written { λ _. ⌜ Reports-in-order (A·Link .kind) (B·Link .kind) (C·Link .kind) (W·Watch .kind) ⌝ }
 {
     0
 }
