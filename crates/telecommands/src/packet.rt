@@ -1,13 +1,7 @@
 // What a telecommand packet says.
 use records::step::Step;
 
-/// The most steps that a procedure has.
-pub const MOST_STEPS: usize = 28;
-
-/// The most settings that a packet has room for.
-pub const MOST_SETTINGS: usize = 38;
-
-/// The steps of a procedure: the first `count`, then blank ones.
+/// The steps of a procedure, 28 at most: the first `count`, then blank ones.
 #[derive(Clone, Copy)]
 pub struct Steps {
     pub items: [Step; 28],
@@ -21,7 +15,7 @@ pub struct Setting {
     pub value: u32,
 }
 
-/// Values for parameters, in the order of the packet: the first `count`, then blank ones.
+/// Values for parameters in the order of the packet, which has room for 38: the first `count`, then blank ones.
 #[derive(Clone, Copy)]
 pub struct Settings {
     pub items: [Setting; 38],
