@@ -2,9 +2,14 @@ pub mod Balance
 pub mod Calls
 pub mod Cases
 pub mod Desks
+pub mod Executive
 pub mod Laws
 pub mod Machine
+pub mod Parts
 pub mod Procedures
 pub mod Runs
+pub mod Samples
 pub mod Seats
+pub mod Submits
+pub mod Ticks
 pub mod Written
