@@ -1,4 +1,6 @@
 // The answer lines of the bench program.
+#![tactic(auto)]
+
 pub mod cases;
 mod hex;
 pub mod lines;

@@ -1,4 +1,6 @@
 // Works an executive by a list of calls on standard input, one answer to a line.
+#![tactic(auto)]
+
 use crate::session::{next_place, respond};
 use bench_text::read::read_line;
 use bench_text::words::without_newline;

@@ -1,4 +1,6 @@
 // The executive's calls, under the balance over every run.
+#![tactic(auto)]
+
 pub mod call;
 pub mod cases;
 pub mod console;

@@ -1,4 +1,6 @@
 // What the executive holds beside its links and its watch.
+#![tactic(auto)]
+
 pub mod chain;
 pub mod desk;
 pub mod items;

@@ -1,4 +1,6 @@
 // Judges a shift's telecommand sheet before anything is sent: which packets would be taken, and which refused.
+#![tactic(auto)]
+
 use crate::sheet::verdict;
 use crate::verdict::Totals;
 use bench_text::read::read_line;

@@ -1,4 +1,6 @@
 // Links to the units: what a link means, and the kinds wire and processor.
+#![tactic(auto)]
+
 pub mod answers;
 pub mod examples;
 pub mod link;

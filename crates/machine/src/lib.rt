@@ -1,4 +1,6 @@
 // The machine: what the executive holds, and what it answers, as definitions.
+#![tactic(auto)]
+
 pub mod answers;
 pub mod cases;
 pub mod laws;

@@ -1,4 +1,6 @@
 // Measures the executive: its size, and with the argument `times` its longest calls.
+#![tactic(auto)]
+
 use crate::packets::{
     LOAD_LONGEST, LOAD_TWO, LONGEST, PROCESSOR_1_ON, PROCESSOR_2_ON, START_25, START_ONE, STOP_ANY,
     TRIGGER_1, TRIGGER_2, WIRE_ON,

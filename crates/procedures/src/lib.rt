@@ -1,4 +1,6 @@
 // Telecommands about settings and procedures.
+#![tactic(auto)]
+
 pub mod settings;
 pub mod steps;
 pub mod switches;

@@ -1,4 +1,6 @@
 // The plain records that all layers share.
+#![tactic(auto)]
+
 pub mod call;
 pub mod command;
 pub mod event;

@@ -1,4 +1,6 @@
 // Works a shift's call list through the executive, and prints the telecommand sheet for the hand-over.
+#![tactic(auto)]
+
 use crate::sheet::SheetLine;
 use anyhow::anyhow;
 use bench_text::read::read_line;

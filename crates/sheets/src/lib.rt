@@ -1,4 +1,6 @@
 // The hand-over sheet of a shift: which telecommands are ticked, and the totals.
+#![tactic(auto)]
+
 pub mod bench;
 pub mod calls;
 pub mod finals;

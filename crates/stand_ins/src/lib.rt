@@ -1,4 +1,6 @@
 // Kinds for tests: a link that replies as a script says, and a watch as wide as can be.
+#![tactic(auto)]
+
 #[cfg(test)]
 mod link_tests;
 pub mod patience;

@@ -1,4 +1,6 @@
 // Stores of records that wait to be collected, oldest first.
+#![tactic(auto)]
+
 pub mod event_store;
 pub mod example;
 pub mod queue;

@@ -1,4 +1,6 @@
 // Reading telecommand packets.
+#![tactic(auto)]
+
 mod decode;
 mod fields;
 mod judge;

@@ -1,4 +1,6 @@
 // Runs the published vectors of the check word and prints each with the word computed for it.
+#![tactic(auto)]
+
 use octets::check::check_word;
 use std::io;
 

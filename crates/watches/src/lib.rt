@@ -1,4 +1,6 @@
 // Watches over housekeeping values: what a watch is, and four kinds.
+#![tactic(auto)]
+
 pub mod band;
 pub mod examples;
 mod last_seen;

@@ -8,7 +8,7 @@ loop-init c = refl
 
 pub loop-preserved : goal.loop-preserved
 unfolding bit_steps
-loop-preserved c = rw add-one (c.bit-step-next.ensures.next_word ∙ ap bit_step c.loop.invariant)
+loop-preserved c = rw add-one (c.bit_step-next.ensures.next_word ∙ ap bit_step c.loop.invariant)
 
 pub returns : goal.returns
 returns c =

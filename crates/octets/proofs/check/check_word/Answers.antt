@@ -13,7 +13,7 @@ returns c =
     let bytes = c.args.bytes.now in
     let word : c.loop-byte.word ≡ check_word bytes = search (rules, take_all) in
     record {
-      over-each-byte-in-turn = word;
+      over_each_byte_in_turn = word;
       own_word_leaves_zero = own_word_leaves_zero bytes c.loop-byte.word word;
       wrong_byte_shows = wrong_byte_shows bytes (λ i. omega (arith, c.type-inv.bytes i));
     }

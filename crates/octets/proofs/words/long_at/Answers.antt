@@ -6,4 +6,4 @@ pub returns : goal.returns
 returns c =
     let third = simp add-zero at (largest_place c.args.bytes.now (c.args.at + 2) 0 (omega arith)) in
     let fourth = largest_place c.args.bytes.now (c.args.at + 2) 1 (omega arith) in
-    record { two-words = cc }
+    record { two_words = cc }
