@@ -7,7 +7,7 @@ loop-at-preserved-then-is-blank c =
 
 pub returns-then-at-text : goal.returns-then-at-text
 returns-then-at-text c =
-    record { pairs-of-digits = at_last _ _ _ c.loop-at.invariant c.loop-at-test.true c.if-at-text.true c.if-is-blank.ensures.three-of-them }
+    record { pairs_of_digits = at_last _ _ _ c.loop-at.invariant c.loop-at-test.true c.if-at-text.true c.if-is_blank.ensures.three_of_them }
 
 pub returns-in-default : goal.returns-in-default
 returns-in-default c =
@@ -15,7 +15,7 @@ returns-in-default c =
 
 pub loop-at-preserved : goal.loop-at-preserved
 loop-at-preserved c =
-    past_pair _ _ _ _ _ c.loop-at.invariant c.if-at-text.false c.if-is-blank.ensures.three-of-them c.in-Some.ensures.high-half-first c.in-ok-push.ensures.items
+    past_pair _ _ _ _ _ c.loop-at.invariant c.if-at-text.false c.if-is_blank.ensures.three_of_them c.in-Some.ensures.high_half_first c.in-ok-push.ensures.items
 
 pub returns : goal.returns
-returns c = record { pairs-of-digits = at_end _ _ _ c.loop-at.invariant c.loop-at-test.false }
+returns c = record { pairs_of_digits = at_end _ _ _ c.loop-at.invariant c.loop-at-test.false }

@@ -16,4 +16,4 @@ loop-byte-preserved c = search (rules, fold_more)
 pub returns : goal.returns
 returns c =
     let whole = take_all c.loop-byte.byte-index c.args.word.now c.loop-byte-test.false in
-    record { decimal = c.loop-byte.invariant ∙ ap (fold digit_step (Some 0)) whole ∙ some_digits _ c.if-is-empty.ensures }
+    record { decimal = c.loop-byte.invariant ∙ ap (fold digit_step (Some 0)) whole ∙ some_digits _ c.if-is_empty.ensures }

@@ -12,7 +12,7 @@ returns-then-is-blank-blanks c =
 
 pub loop-byte-preserved : goal.loop-byte-preserved
 loop-byte-preserved c =
-    let yes = wanted _ _ _ c.is-blank.ensures.three-of-them c.if-is-blank-blanks.false in
+    let yes = wanted _ _ _ c.is_blank.ensures.three_of_them c.if-is_blank-blanks.false in
     let step = prefix_len-drop_yes (blanks_are c.args.blanks) c.args.text.now c.loop-byte.byte-index 0 c.loop-byte-test.true yes in
     (omega arith, omega (arith, step))
 

@@ -15,5 +15,5 @@ returns c =
     record {
       over_each_byte_in_turn = word;
       own_word_leaves_zero = own_word_leaves_zero bytes c.loop-byte.word word;
-      wrong_byte_shows = wrong_byte_shows bytes (λ i. omega (arith, c.type-inv.bytes i));
+      wrong_byte_shows = wrong_byte_shows bytes (λ i. omega (arith, c.type_inv.bytes i));
     }
