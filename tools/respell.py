@@ -3,7 +3,8 @@
 
 usage: tools/respell.py [ROOT] [--list]      run once, after the toolchain's own upgrade script
 
-A name is the repository's own if an .antt file of specs/ or proofs/ defines it: a definition, a lemma, a record's field, a constructor, or a local name.
+A name is the repository's own if an .antt file of specs/ or proofs/ defines it: a definition, a lemma, a record's field, a constructor, or a local name;
+or if a line that imports it gives it there by 'as'.
 Names of the library, and those that the check makes (goals, labels of clauses), are left as they are. Functions, strings and outputs are not touched.
 """
 
@@ -15,6 +16,7 @@ WORD = re.compile(r"(?<![\w'·.◌])(?:[A-Za-z_][\w']*(?:-[\w']+)*)|(?<=\.)[A-Za
 HEAD = re.compile(r"^\s*(?:(?:abbrev|unfoldable|pub|record|data)\s+)*([A-Za-z][\w']*(?:-[\w']+)*)\s*(?:[({][^:]*:.*)?(?::\s*(\S*)|where)")
 LET = re.compile(r"\blet ([A-Za-z][\w']*(?:-[\w']+)*)")
 BOUND = re.compile(r"[({]([A-Za-z][\w' -]*?) :")
+ALIAS = re.compile(r" as ([A-Za-z][\w']*(?:-[\w']+)*)(?=[,};\s])")
 LAMBDA = re.compile(r"λ ([A-Za-z][\w' -]*?)\.(?= )")
 IMPORT = re.compile(r"^\s*(?:ghost |pub )*use (Rattle\.std|native|lib|mathlib|Prim|borrow)[^{]*\{([^}]*)\}")
 
@@ -56,6 +58,8 @@ def code(line):
 
 
 def plain(name):
+    if name[0].isupper():
+        return "-" not in name and not re.search(r"[a-z]_[a-z]", name)
     return "-" not in name and not re.search(r"[a-z0-9'][A-Z]", name)
 
 
@@ -63,7 +67,7 @@ def spelled(name):
     if name in OTHER:
         return OTHER[name]
     if name[0].isupper():
-        camel = "-".join(part[:1].upper() + part[1:] for part in name.split("-"))
+        camel = "-".join(part[:1].upper() + part[1:] for part in re.split(r"-|(?<=[a-z])_(?=[a-z])", name))
         return re.sub(r"(?<=[0-9])-(?=[0-9])", "_", camel).replace("-", "")
     return re.sub(r"(?<=[a-z0-9'])([A-Z])", r"_\1", name.replace("-", "_")).lower()
 
@@ -85,7 +89,12 @@ def own(root):
                 names.update(LET.findall(line))
                 for found in BOUND.findall(line) + LAMBDA.findall(line):
                     names.update(found.split())
-    return {n for n in names - library if not plain(n) and not (n[0].isupper() and "-" not in n)}
+    for path in texts(root, (".antt", ".rt")):
+        with open(path, encoding="utf-8") as f:
+            for line in f:
+                if re.match(r"\s*(ghost |pub )*use Rattle", line):
+                    names.update(ALIAS.findall(line))
+    return {n for n in names - library if not plain(n)}
 
 
 def main():

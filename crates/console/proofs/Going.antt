@@ -8,10 +8,10 @@ use Rattle.machine.specs.Parts as parts
 use Rattle.machine.specs.Runs.{Entry, History, Ran}
 use Rattle.machine.proofs.Balancing.{balanced}
 use Rattle.watches.specs.Meaning.{WatchKind, LawfulWatch}
-use Rattle.console.specs.Consoles.{Steps, Goes_on, BalancedThroughout}
+use Rattle.console.specs.Consoles.{Steps, GoesOn, BalancedThroughout}
 
 module _ {K0 K1 K2 : LinkKind} {W : WatchKind} (L0 : Lawful K0) (L1 : Lawful K1) (L2 : Lawful K2) (LW : LawfulWatch W) where
-  pub goes_on : (m : Machine K0 K1 K2 W) (c : calls.Call) (a : parts.Answer Told) (n : Machine K0 K1 K2 W) → Steps m c a n → Goes_on m c a n
+  pub goes_on : (m : Machine K0 K1 K2 W) (c : calls.Call) (a : parts.Answer Told) (n : Machine K0 K1 K2 W) → Steps m c a n → GoesOn m c a n
   goes_on m c a n s = record {
     run = λ h ran. (m, ran, s.0, s.1);
     balance = λ h ran. balanced L0 L1 L2 LW (record { call = c; answer = a } ∷ h) n (m, ran, s.0, s.1);

@@ -41,7 +41,7 @@ module _ {K0 K1 K2 : LinkKind} {W : WatchKind} where
   Steps m c a n = (a ≡ calls.answer_to m c) × (n ≡ calls.after m c)
 
   -- any run that led here goes on with this call, and is balanced after it
-  pub record Goes_on (m : Machine K0 K1 K2 W) (c : calls.Call) (a : parts.Answer Told) (n : Machine K0 K1 K2 W) : Type 0 where
+  pub record GoesOn (m : Machine K0 K1 K2 W) (c : calls.Call) (a : parts.Answer Told) (n : Machine K0 K1 K2 W) : Type 0 where
     pub run : (h : History) → Ran h m → Ran (record { call = c; answer = a } ∷ h) n
     pub balance : (h : History) → Ran h m → Balanced (record { call = c; answer = a } ∷ h) (view_of n)
 

@@ -1,10 +1,10 @@
 // A console: the calls on an executive, each with what it adds to any run.
 ghost use Rattle.std.specs.Prelude.{◌≡◌, length, slice_index};
-ghost use Rattle.machine.specs.Calls.{submitted, delivered, ticked, sampled, collected, submit as submitCall, deliver as deliverCall, tick as tickCall, sample as sampleCall, collect as collectCall, made, Fresh};
+ghost use Rattle.machine.specs.Calls.{submitted, delivered, ticked, sampled, collected, submit as submit_call, deliver as deliver_call, tick as tick_call, sample as sample_call, collect as collect_call, made, Fresh};
 ghost use Rattle.machine.specs.Machine.{message_of};
 ghost use Rattle.machine.specs.Outcomes.{handing_of};
 ghost use Rattle.machine.specs.Runs.{New};
-ghost use Rattle.console.specs.Consoles.{call_of, answered, answer_of, machine_of, Steps, Goes_on};
+ghost use Rattle.console.specs.Consoles.{call_of, answered, answer_of, machine_of, Steps, GoesOn};
 
 use crate::call::{Answer, Call};
 use executive::executive::Executive;
@@ -30,36 +30,36 @@ impl<A: Link, B: Link, C: Link, W: Watch> Console<A, B, C, W> {
     }
 
     pub fn submit(&mut self, packet: &[u8]) -> (Result<u32, Refusal>, u32, u32)
-        ensures as_the_machine_does { Steps (machine_of A.Link B.Link C.Link W.Watch self.old) (submitCall packet.now) (answered (submitted result.0) result.1 result.2) (machine_of A.Link B.Link C.Link W.Watch self.new) }
-        ensures goes_on_balanced { Goes_on (machine_of A.Link B.Link C.Link W.Watch self.old) (submitCall packet.now) (answered (submitted result.0) result.1 result.2) (machine_of A.Link B.Link C.Link W.Watch self.new) }
+        ensures as_the_machine_does { Steps (machine_of A.Link B.Link C.Link W.Watch self.old) (submit_call packet.now) (answered (submitted result.0) result.1 result.2) (machine_of A.Link B.Link C.Link W.Watch self.new) }
+        ensures goes_on_balanced { GoesOn (machine_of A.Link B.Link C.Link W.Watch self.old) (submit_call packet.now) (answered (submitted result.0) result.1 result.2) (machine_of A.Link B.Link C.Link W.Watch self.new) }
     {
         self.executive.submit(packet)
     }
 
     pub fn deliver(&mut self, link: u32, bytes: &[u8]) -> (Result<Receipt, Refusal>, u32, u32)
-        ensures as_the_machine_does { Steps (machine_of A.Link B.Link C.Link W.Watch self.old) (deliverCall link bytes.now) (answered (delivered result.0) result.1 result.2) (machine_of A.Link B.Link C.Link W.Watch self.new) }
-        ensures goes_on_balanced { Goes_on (machine_of A.Link B.Link C.Link W.Watch self.old) (deliverCall link bytes.now) (answered (delivered result.0) result.1 result.2) (machine_of A.Link B.Link C.Link W.Watch self.new) }
+        ensures as_the_machine_does { Steps (machine_of A.Link B.Link C.Link W.Watch self.old) (deliver_call link bytes.now) (answered (delivered result.0) result.1 result.2) (machine_of A.Link B.Link C.Link W.Watch self.new) }
+        ensures goes_on_balanced { GoesOn (machine_of A.Link B.Link C.Link W.Watch self.old) (deliver_call link bytes.now) (answered (delivered result.0) result.1 result.2) (machine_of A.Link B.Link C.Link W.Watch self.new) }
     {
         self.executive.deliver(link, bytes)
     }
 
     pub fn tick(&mut self) -> ((), u32, u32)
-        ensures as_the_machine_does { Steps (machine_of A.Link B.Link C.Link W.Watch self.old) tickCall (answered ticked result.1 result.2) (machine_of A.Link B.Link C.Link W.Watch self.new) }
-        ensures goes_on_balanced { Goes_on (machine_of A.Link B.Link C.Link W.Watch self.old) tickCall (answered ticked result.1 result.2) (machine_of A.Link B.Link C.Link W.Watch self.new) }
+        ensures as_the_machine_does { Steps (machine_of A.Link B.Link C.Link W.Watch self.old) tick_call (answered ticked result.1 result.2) (machine_of A.Link B.Link C.Link W.Watch self.new) }
+        ensures goes_on_balanced { GoesOn (machine_of A.Link B.Link C.Link W.Watch self.old) tick_call (answered ticked result.1 result.2) (machine_of A.Link B.Link C.Link W.Watch self.new) }
     {
         self.executive.tick()
     }
 
     pub fn sample(&mut self, function: u32, value: u32) -> (Result<bool, Refusal>, u32, u32)
-        ensures as_the_machine_does { Steps (machine_of A.Link B.Link C.Link W.Watch self.old) (sampleCall function value) (answered (sampled result.0) result.1 result.2) (machine_of A.Link B.Link C.Link W.Watch self.new) }
-        ensures goes_on_balanced { Goes_on (machine_of A.Link B.Link C.Link W.Watch self.old) (sampleCall function value) (answered (sampled result.0) result.1 result.2) (machine_of A.Link B.Link C.Link W.Watch self.new) }
+        ensures as_the_machine_does { Steps (machine_of A.Link B.Link C.Link W.Watch self.old) (sample_call function value) (answered (sampled result.0) result.1 result.2) (machine_of A.Link B.Link C.Link W.Watch self.new) }
+        ensures goes_on_balanced { GoesOn (machine_of A.Link B.Link C.Link W.Watch self.old) (sample_call function value) (answered (sampled result.0) result.1 result.2) (machine_of A.Link B.Link C.Link W.Watch self.new) }
     {
         self.executive.sample(function, value)
     }
 
     pub fn collect(&mut self) -> (Handed, u32, u32)
-        ensures as_the_machine_does { Steps (machine_of A.Link B.Link C.Link W.Watch self.old) collectCall (answered (collected (handing_of result.0)) result.1 result.2) (machine_of A.Link B.Link C.Link W.Watch self.new) }
-        ensures goes_on_balanced { Goes_on (machine_of A.Link B.Link C.Link W.Watch self.old) collectCall (answered (collected (handing_of result.0)) result.1 result.2) (machine_of A.Link B.Link C.Link W.Watch self.new) }
+        ensures as_the_machine_does { Steps (machine_of A.Link B.Link C.Link W.Watch self.old) collect_call (answered (collected (handing_of result.0)) result.1 result.2) (machine_of A.Link B.Link C.Link W.Watch self.new) }
+        ensures goes_on_balanced { GoesOn (machine_of A.Link B.Link C.Link W.Watch self.old) collect_call (answered (collected (handing_of result.0)) result.1 result.2) (machine_of A.Link B.Link C.Link W.Watch self.new) }
     {
         self.executive.collect()
     }
@@ -114,7 +114,7 @@ impl<A: Link, B: Link, C: Link, W: Watch> Console<A, B, C, W> {
     /// Any of the five calls.
     pub fn work(&mut self, call: &Call) -> Answer
         ensures as_the_machine_does { Steps (machine_of A.Link B.Link C.Link W.Watch self.old) (call_of call.now) (answer_of result) (machine_of A.Link B.Link C.Link W.Watch self.new) }
-        ensures goes_on_balanced { Goes_on (machine_of A.Link B.Link C.Link W.Watch self.old) (call_of call.now) (answer_of result) (machine_of A.Link B.Link C.Link W.Watch self.new) }
+        ensures goes_on_balanced { GoesOn (machine_of A.Link B.Link C.Link W.Watch self.old) (call_of call.now) (answer_of result) (machine_of A.Link B.Link C.Link W.Watch self.new) }
     {
         self.make_call(call)
     }

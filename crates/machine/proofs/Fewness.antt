@@ -31,9 +31,9 @@ few_in : (t : PacketType) (p : List ℕ) → data_fits t p ≡ true → FewIn (O
 few_in ConnectionTest p fits = tt
 few_in FunctionActivity p fits = tt
 few_in ProcedureLoad p fits =
-    let low = and_parts (leb 12 (data_bytes p)) (leb (data_bytes p) 228 && eqb (data_bytes p % 8) 4) fits in
-    let high = and_parts (leb (data_bytes p) 228) (eqb (data_bytes p % 8) 4) low.1 in
-    omega (arith, leb-true (data_bytes p) 228 high.0)
+    let sized = and_parts (leb 12 (data_bytes p) && leb (data_bytes p) 228) (eqb (data_bytes p % 8) 4) fits in
+    let most = and_parts (leb 12 (data_bytes p)) (leb (data_bytes p) 228) sized.0 in
+    omega (arith, leb-true (data_bytes p) 228 most.1)
 few_in ProcedureDelete p fits = tt
 few_in ProcedureStart p fits = tt
 few_in ProcedureStop p fits = tt

@@ -5,7 +5,7 @@ ghost use Rattle.console.specs.Lists.{history_of};
 ghost use Rattle.links.specs.Processors.{processor_kind};
 ghost use Rattle.links.specs.Wires.{wire_kind};
 ghost use Rattle.machine.specs.Calls.{answers_to};
-ghost use Rattle.machine.specs.Cases.{bench as benchMachine, bench_watch};
+ghost use Rattle.machine.specs.Cases.{bench as bench_machine, bench_watch};
 ghost use Rattle.sheets.specs.Shifts.{Closed};
 
 use crate::shift::{Shift, work_shift};
@@ -20,7 +20,7 @@ use watches::still::Still;
 
 /// Works the calls of a shift on a wire, two processors of delay 0; Still, Moving, and Band 100 to 200.
 pub fn work_bench(heap: Global, calls: &[Call]) -> Result<Shift, AllocError>
-    ensures answers_of_the_bench { IfOk result (λ s. map answer_of s.answers.items ≡ answers_to benchMachine (map call_of calls.now)) }
+    ensures answers_of_the_bench { IfOk result (λ s. map answer_of s.answers.items ≡ answers_to bench_machine (map call_of calls.now)) }
     ensures balanced { IfOk result (λ s. Closed wire_kind processor_kind processor_kind bench_watch (history_of (map call_of calls.now) (map answer_of s.answers.items)) s.totals) }
 {
     let watch = Pair::new(Still::new(), Pair::new(Moving::new(), Band::new(100, 200)));

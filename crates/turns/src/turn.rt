@@ -1,8 +1,8 @@
 // A link's turn in a tick.
 ghost use Rattle.std.specs.Prelude.{◌≡◌, ◌+◌, ◌<◌, ◌≤◌, true, nat_lt};
 ghost use Rattle.desks.specs.Desked.{desk_of};
-ghost use Rattle.machine.specs.Seats.{Turn, age_of, older as olderBy, turn as turn_of};
-ghost use Rattle.turns.specs.Ends.{unanswered as unansweredIn};
+ghost use Rattle.machine.specs.Seats.{Turn, age_of, older as older_by, turn as turn_of};
+ghost use Rattle.turns.specs.Ends.{unanswered as unanswered_in};
 ghost use Rattle.turns.specs.Seated.{seat_of};
 
 use crate::ends::{fail, reply};
@@ -25,7 +25,7 @@ fn age(hold: Option<Hold>) -> u32
 /// The same note, one tick older.
 fn older(hold: Option<Hold>) -> Option<Hold>
     requires { age_of hold < 4294967295 }
-    ensures one_more_tick { result ≡ olderBy hold }
+    ensures one_more_tick { result ≡ older_by hold }
 {
     match hold {
         Some(hold) => Some(Hold {
@@ -47,7 +47,7 @@ fn may_wait<L: Link>(hold: Option<Hold>) -> bool
 /// Nothing was due: the command grows older, or is abandoned at the wait limit.
 fn wait<L: Link>(place: u8, seat: &mut Seat<L>, desk: &mut Desk) -> (u32, u32)
     ensures at_most_one_raised { (result.0 ≤ 1) × (result.1 ≤ 1) }
-    ensures older_or_abandoned { ◌≡◌ {A = Turn kind} (record { seat = seat_of L.Link seat.exit.now; desk = desk_of desk.new; raised = result.0; lost = result.1 }) (unansweredIn place (seat_of L.Link seat.entry.now) (desk_of desk.old)) }
+    ensures older_or_abandoned { ◌≡◌ {A = Turn kind} (record { seat = seat_of L.Link seat.exit.now; desk = desk_of desk.new; raised = result.0; lost = result.1 }) (unanswered_in place (seat_of L.Link seat.entry.now) (desk_of desk.old)) }
 {
     let hold = seat.hold;
     if may_wait::<L>(hold) {

@@ -1,6 +1,6 @@
 // What is read from a desk, and how a run there goes on or ends.
 ghost use Rattle.std.specs.Prelude.{◌≡◌, ◌-◌, None, slice_index_or};
-ghost use Rattle.machine.specs.Desks.{new_desk, with_status, status_at, is_off, is_stopped, is_blocked, is_on, procedure_at, runs as runsOn, steps_of, passed};
+ghost use Rattle.machine.specs.Desks.{new_desk, with_status, status_at, is_off, is_stopped, is_blocked, is_on, procedure_at, runs as runs_on, steps_of, passed};
 ghost use Rattle.machine.specs.Parts.{action_at, parameter_of};
 ghost use Rattle.desks.specs.Desked.{desk_of, run_ended};
 
@@ -120,7 +120,7 @@ impl Desk {
 
     /// Whether the procedure of this ID runs.
     pub fn runs(&self, id: u16) -> bool
-        ensures by_its_id { result ≡ runsOn (desk_of self.now) id }
+        ensures by_its_id { result ≡ runs_on (desk_of self.now) id }
     {
         match self.run {
             Some(run) => run.id == id,

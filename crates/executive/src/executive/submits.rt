@@ -1,6 +1,6 @@
 // Submit, and how many places are free.
 ghost use Rattle.std.specs.Prelude.{◌≡◌};
-ghost use Rattle.machine.specs.Machine.{free as freeIn, submit_answer, after_submit};
+ghost use Rattle.machine.specs.Machine.{free as free_in, submit_answer, after_submit};
 ghost use Rattle.executive.specs.Meaning.{meaning};
 ghost use Rattle.executive.specs.Sends.{tupled};
 
@@ -17,7 +17,7 @@ const PLACES: u32 = 400;
 impl<A: Link, B: Link, C: Link, W: Watch> Executive<A, B, C, W> {
     /// Places of the report store that are neither taken nor owed.
     pub fn free(&self) -> u32
-        ensures not_taken_or_owed { result ≡ freeIn (meaning A.Link B.Link C.Link W.Watch self.now) }
+        ensures not_taken_or_owed { result ≡ free_in (meaning A.Link B.Link C.Link W.Watch self.now) }
     {
         let held = pending(&self.seat0.hold)
             + pending(&self.seat1.hold)
