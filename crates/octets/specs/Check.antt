@@ -1,5 +1,5 @@
 -- The check word of a list of bytes: generator 0x1021, start 0xFFFF, high bit first, over each byte in turn.
-use Rattle.std.specs.Prelude.{◌≡◌, ℕ, zero, suc, ◌*◌, ◌/◌, ◌%◌, ◌<◌, cond, List, [], ◌∷◌, ◌++◌, length, set, fold, bit_xor, nat_le, slice_index, slice_set}
+use Rattle.std.specs.Prelude.{◌≡◌, ℕ, zero, suc, ◌*◌, ◌/◌, ◌%◌, ◌<◌, cond, List, [], ◌∷◌, ◌++◌, length, fold, bit_xor, nat_le, slice_index, slice_set}
 
 -- one bit: shifted left, and the generator added where the top bit was set
 abbrev pub bit_step : ℕ → ℕ

@@ -20,4 +20,4 @@ means byte fits =
     omega (arith, high, low)
 
 pub returns : goal.returns
-returns c = record { mean-themselves = means }
+returns c = record { mean_themselves = means }

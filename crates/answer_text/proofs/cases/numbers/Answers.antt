@@ -10,8 +10,8 @@ worked = record { none = refl; seven = refl; ten = refl; largest_long = refl; la
 
 pub returns : goal.returns
 returns c = record {
-  as-printed = worked;
-  mean-themselves =
+  as_printed = worked;
+  mean_themselves =
       λ n fits.
       record {
         digits_only = (decimal_is_IsNumeral n fits).0;

@@ -6,7 +6,7 @@ use Rattle.answer_text.proofs.cases.worked_lines.Goals as goal
 pub returns : goal.returns
 unfolding digits hex_of
 returns c = record {
-  as-printed = record {
+  as_printed = record {
     accepted = refl;
     submit_refused = refl;
     deliver_refused = refl;

@@ -9,11 +9,11 @@ loop-byte-init c = hex_none _
 
 pub loop-byte-preserved : goal.loop-byte-preserved
 loop-byte-preserved c =
-    hex_more _ _ _ c.args.bytes.now _ c.hex-digit-high.result c.hex-digit-low.result c.loop-byte-test.true c.loop-byte.invariant c.hex-digit-high.ensures.lower-case c.hex-digit-high.ensures.ascii c.hex-digit-low.ensures.lower-case c.hex-digit-low.ensures.ascii c.in-ok-write.ensures.bytes
+    hex_more _ _ _ c.args.bytes.now _ c.hex-digit-high.result c.hex-digit-low.result c.loop-byte-test.true c.loop-byte.invariant c.hex-digit-high.ensures.lower_case c.hex-digit-high.ensures.ascii c.hex-digit-low.ensures.lower_case c.hex-digit-low.ensures.ascii c.in_ok-write.ensures.bytes
 
 pub returns : goal.returns
 returns c =
     let whole = take_all c.loop-byte.byte-index c.args.bytes.now c.loop-byte-test.false in
     record {
-      two-digits-to-a-byte = c.loop-byte.invariant ∙ ap (λ (l : List ℕ). string_bytes c.args.line.now ++ hex_of l) whole;
+      two_digits_to_a_byte = c.loop-byte.invariant ∙ ap (λ (l : List ℕ). string_bytes c.args.line.now ++ hex_of l) whole;
     }

@@ -7,8 +7,8 @@ pub returns : goal.returns
 returns c =
     let place = decimal c.args.place ++ codes " " in
     let text = message_text c.args.bytes.now in
-    let rest = both_added _ _ text _ _ _ c.in-ok-write-message-text.ensures.how-many-and-which c.write-counts.ensures.raised-then-lost in
+    let rest = both_added _ _ text _ _ _ c.in_ok-write-message-text.ensures.how_many_and_which c.write_counts.ensures.raised_then_lost in
     record {
-      place-message-and-no-counts =
-          simp append_assoc (simp append_assoc at (both_added _ _ place _ _ _ c.in-ok-write.ensures.bytes rest));
+      place_message_and_no_counts =
+          simp append_assoc (simp append_assoc at (both_added _ _ place _ _ _ c.in_ok-write.ensures.bytes rest));
     }

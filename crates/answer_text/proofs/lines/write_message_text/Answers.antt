@@ -15,14 +15,14 @@ some_bytes (byte ∷ more) some = refl
 
 pub returns-then-is-empty : goal.returns-then-is-empty
 returns-then-is-empty c = record {
-  how-many-and-which = simp (no_bytes c.args.bytes.now c.if-is-empty.ensures) c.write.ensures.bytes;
+  how_many_and_which = simp (no_bytes c.args.bytes.now c.if-is-empty.ensures) c.write.ensures.bytes;
 }
 
 pub returns : goal.returns
 returns c =
     let length_of = codes "message " ++ (decimal (length c.args.bytes.now) ++ codes " ") in
     record {
-      how-many-and-which =
+      how_many_and_which =
           simp (some_bytes c.args.bytes.now c.if-is-empty.ensures)
-          (simp append_assoc at (both_added _ _ length_of _ _ _ c.in-ok-write.ensures.bytes c.write-hex.ensures.two-digits-to-a-byte));
+          (simp append_assoc at (both_added _ _ length_of _ _ _ c.in_ok-write.ensures.bytes c.write_hex.ensures.two_digits_to_a_byte));
     }

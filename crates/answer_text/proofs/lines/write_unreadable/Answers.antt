@@ -6,7 +6,7 @@ pub returns : goal.returns
 returns c =
     let place = decimal c.args.place ++ codes " unreadable" in
     record {
-      place-and-no-counts =
+      place_and_no_counts =
           simp append_assoc
-          (simp append_assoc at (both_added _ _ place _ _ _ c.in-ok-write.ensures.bytes c.write-counts.ensures.raised-then-lost));
+          (simp append_assoc at (both_added _ _ place _ _ _ c.in_ok-write.ensures.bytes c.write_counts.ensures.raised_then_lost));
     }

@@ -6,7 +6,7 @@ pub returns : goal.returns
 returns c =
     let front = codes "fault " ++ (decimal c.number.result ++ (codes " " ++ (c.name.result.now ++ (codes " class " ++ (decimal c.args.fault.class ++ (codes " parameter " ++ decimal c.args.fault.parameter)))))) in
     record {
-      all-six-fields =
-          simp (append_assoc, c.number.ensures.by-its-case, c.name.ensures.by-its-case) at
-          (both_added _ _ front _ _ _ c.in-ok-write.ensures.bytes c.write-2.ensures.bytes);
+      all_six_fields =
+          simp (append_assoc, c.number.ensures.by_its_case, c.name.ensures.by_its_case) at
+          (both_added _ _ front _ _ _ c.in_ok-write.ensures.bytes c.write-2.ensures.bytes);
     }

@@ -6,7 +6,7 @@ pub returns : goal.returns
 returns c =
     let number = codes "report " ++ (decimal c.args.report.number ++ codes " ") in
     record {
-      number-and-stage =
+      number_and_stage =
           simp append_assoc at
-          (both_added _ _ number _ _ _ c.in-ok-write.ensures.bytes c.write-stage.ensures.stage-sent-and-fault);
+          (both_added _ _ number _ _ _ c.in_ok-write.ensures.bytes c.write_stage.ensures.stage_sent_and_fault);
     }

@@ -3,13 +3,13 @@ use Rattle.answer_text.proofs.Texts.{both_added}
 use Rattle.answer_text.proofs.outcomes.write_stage.Goals as goal
 
 pub returns-in-Started : goal.returns-in-Started
-returns-in-Started c = record { stage-sent-and-fault = simp c.in-Started.is c.write.ensures.bytes }
+returns-in-Started c = record { stage_sent_and_fault = simp c.in-Started.is c.write.ensures.bytes }
 
-pub returns-in-ok-write : goal.returns-in-ok-write
-returns-in-ok-write c =
+pub returns-in_ok-write : goal.returns-in_ok-write
+returns-in_ok-write c =
     let sent = codes "FAILED sent " ++ (decimal c.in-Failed.sent ++ codes " ") in
     record {
-      stage-sent-and-fault =
+      stage_sent_and_fault =
           simp c.in-Failed.is
-          (simp append_assoc at (both_added _ _ sent _ _ _ c.in-ok-write.ensures.bytes c.write-fault.ensures.all-six-fields));
+          (simp append_assoc at (both_added _ _ sent _ _ _ c.in_ok-write.ensures.bytes c.write_fault.ensures.all_six_fields));
     }

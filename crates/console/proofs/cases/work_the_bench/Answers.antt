@@ -7,8 +7,8 @@ use Rattle.console.proofs.cases.work_the_bench.Goals as goal
 
 pub returns : goal.returns
 returns c =
-    let told : map answer_of (vec_items c.in-ok-answers.answers) ≡ answers_to bench (map call_of c.args.calls.now) = search rules in
+    let told : map answer_of (vec_items c.in_ok-answers.answers) ≡ answers_to bench (map call_of c.args.calls.now) = search rules in
     record {
-      answers-of-the-machine = told;
-      worked-cases = answered_so (map call_of c.args.calls.now) (map answer_of (vec_items c.in-ok-answers.answers)) told;
+      answers_of_the_machine = told;
+      worked_cases = answered_so (map call_of c.args.calls.now) (map answer_of (vec_items c.in_ok-answers.answers)) told;
     }

@@ -13,13 +13,13 @@ loop-call-preserved g c =
     let before = machine_of g.A.Link g.B.Link g.C.Link g.W.Watch c.loop-call.console in
     let after = machine_of g.A.Link g.B.Link g.C.Link g.W.Watch c.work.new.self in
     let both = all_more m before after c.args.calls.now c.loop-call.call-index c.call-item.result (vec_items c.loop-call.answers) (vec_items c.push-reserved.new.self)
-    c.work.result c.loop-call-test.true c.call-item.is c.push-reserved.ensures.items c.loop-call.invariant.2 c.loop-call.invariant.3 c.work.ensures.as-the-machine-does in
+    c.work.result c.loop-call-test.true c.call-item.is c.push-reserved.ensures.items c.loop-call.invariant.2 c.loop-call.invariant.3 c.work.ensures.as_the_machine_does in
     (search rules, search rules, both.0, both.1)
 
 pub loop-call-init : goal.loop-call-init
 loop-call-init g c =
     let m = machine_of g.A.Link g.B.Link g.C.Link g.W.Watch c.args.console.now in
-    let none : vec_items c.in-ok-answers.answers ≡ [] = search rules in
+    let none : vec_items c.in_ok-answers.answers ≡ [] = search rules in
     (search rules, search rules, ap (map answer_of) none ∙ sym (answers_none m), sym (after_none m))
 
 pub returns : goal.returns
@@ -27,7 +27,7 @@ returns g c =
     let m = machine_of g.A.Link g.B.Link g.C.Link g.W.Watch c.args.console.now in
     let all = take_all c.loop-call.call-index c.args.calls.now c.loop-call-test.false in
     record {
-      answers-of-the-machine = c.loop-call.invariant.2 ∙ ap (λ (cs : List Call). answers_to m (map call_of cs)) all;
-      error-changes-nothing = λ e. absurd (both_ways true e refl);
-      left-by-all-calls = c.loop-call.invariant.3 ∙ ap (λ (cs : List Call). after_all m (map call_of cs)) all;
+      answers_of_the_machine = c.loop-call.invariant.2 ∙ ap (λ (cs : List Call). answers_to m (map call_of cs)) all;
+      error_changes_nothing = λ e. absurd (both_ways true e refl);
+      left_by_all_calls = c.loop-call.invariant.3 ∙ ap (λ (cs : List Call). after_all m (map call_of cs)) all;
     }

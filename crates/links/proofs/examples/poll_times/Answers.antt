@@ -1,4 +1,4 @@
-use Rattle.std.proofs.Common.{◌≡◌, refl, ap, ◌∙◌, add-one}
+use Rattle.std.proofs.Common.{refl, ap, ◌∙◌, add-one}
 use Rattle.links.specs.Polls.{polled_times}
 use Rattle.links.proofs.examples.poll_times.Goals as goal
 

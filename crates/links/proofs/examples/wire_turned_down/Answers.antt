@@ -1,4 +1,4 @@
-use Rattle.std.proofs.Common.{◌≡◌, [], ◌∷◌, ap, ◌∙◌}
+use Rattle.std.proofs.Common.{[], ◌∷◌, ap, ◌∙◌}
 use Rattle.links.specs.Polls.{polled_times}
 use Rattle.links.specs.Meaning.{LinkMeaning}
 use Rattle.links.specs.Wires.{wire_kind, wire_offered}
@@ -7,5 +7,5 @@ use Rattle.links.proofs.examples.wire_turned_down.Goals as goal
 pub returns : goal.returns
 unfolding polled_times
 returns c =
-    let from = ap (λ (m : LinkMeaning). (wire_kind.received (polled_times wire_kind 0 (wire_offered m c.args.command)) (0 ∷ 0xF4 ∷ 0 ∷ 0xA7 ∷ 0 ∷ 0 ∷ 0 ∷ 0x22 ∷ [])).due) c.new.ensures.idle-with-nothing-taken in
-    record { code-and-detail = c.reply-to-bytes.ensures.by-its-kind ∙ from }
+    let from = ap (λ (m : LinkMeaning). (wire_kind.received (polled_times wire_kind 0 (wire_offered m c.args.command)) (0 ∷ 0xF4 ∷ 0 ∷ 0xA7 ∷ 0 ∷ 0 ∷ 0 ∷ 0x22 ∷ [])).due) c.new.ensures.idle_with_nothing_taken in
+    record { code_and_detail = c.reply_to_bytes.ensures.by_its_kind ∙ from }

@@ -8,7 +8,7 @@ use Rattle.machine.proofs.cases.bench_cases.Goals as goal
 pub returns : goal.returns
 unfolding bit_steps after_all first_bad written_to
 returns c = record {
-  as-computed = record {
+  as_computed = record {
     trigger_to_an_off_link = refl;
     unanswered = refl;
     answered_in_the_last_tick = refl;
@@ -18,5 +18,5 @@ returns c = record {
     parameters_written = refl;
     stopped_while_sent = refl;
   };
-  new-and-withdrawn = record { is_new = bench_new; late_reply = refl };
+  new_and_withdrawn = record { is_new = bench_new; late_reply = refl };
 }

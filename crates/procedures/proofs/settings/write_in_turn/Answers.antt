@@ -12,7 +12,7 @@ returns-then-setting-eq0 c =
     let s : Setting = get_or xs i (record { id = 0; value = 0 }) in
     let e : is_parameter c.args.nop s.id ≡ false = search rules in
     record {
-      those-before-stay-written = sym (c.loop-setting.invariant
+      those_before_stay_written = sym (c.loop-setting.invariant
           ∙ at_drop_more (written_to c.args.nop c.loop-setting.parameters) xs i (record { id = 0; value = 0 }) c.loop-setting-test.true
           ∙ written_stops c.args.nop c.loop-setting.parameters s (drop (i + 1) xs) e);
     }
@@ -30,7 +30,7 @@ loop-setting-preserved c =
 
 pub returns : goal.returns
 returns c = record {
-  those-before-stay-written = sym (c.loop-setting.invariant
+  those_before_stay_written = sym (c.loop-setting.invariant
       ∙ at_drop_all (written_to c.args.nop c.loop-setting.parameters) c.args.settings.now c.loop-setting.setting-index c.loop-setting-test.false
       ∙ written_none c.args.nop c.loop-setting.parameters);
 }

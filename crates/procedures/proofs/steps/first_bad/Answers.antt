@@ -12,10 +12,10 @@ returns-then-is-none c =
     let s : Step = get_or xs i blank_step in
     let e : is_some (action_of c.args.width c.args.nop s) ≡ false = search rules in
     record {
-      counted-from-1 = sym (c.loop-at.invariant
+      counted_from_1 = sym (c.loop-at.invariant
           ∙ at_drop_more (first_bad c.args.width c.args.nop (i + 1)) xs i blank_step c.loop-at-test.true
           ∙ bad_stops c.args.width c.args.nop (i + 1) s (drop (i + 1) xs) e);
-      one-of-them = search rules;
+      one_of_them = search rules;
     }
 
 pub loop-at-preserved : goal.loop-at-preserved
@@ -30,8 +30,8 @@ loop-at-preserved c =
 
 pub returns : goal.returns
 returns c = record {
-  counted-from-1 = sym (c.loop-at.invariant
+  counted_from_1 = sym (c.loop-at.invariant
       ∙ at_drop_all (first_bad c.args.width c.args.nop (c.loop-at.at + 1)) c.args.steps.now c.loop-at.at c.loop-at-test.false
       ∙ bad_none c.args.width c.args.nop (c.loop-at.at + 1));
-  one-of-them = search rules;
+  one_of_them = search rules;
 }

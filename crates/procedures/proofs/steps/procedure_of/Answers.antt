@@ -5,11 +5,11 @@ use Rattle.procedures.proofs.steps.procedure_of.Goals as goal
 pub overflow-cast-result : goal.overflow-cast-result
 overflow-cast-result c =
     let few = length-take c.min.result c.args.steps.now.items in
-    let same = ap length c.first-steps.ensures.as-many-as-there-are in
-    omega (arith, few, same, c.min.ensures, c.first-bad-bad.ensures.one-of-them)
+    let same = ap length c.first-steps.ensures.as_many_as_there_are in
+    omega (arith, few, same, c.min.ensures, c.first-bad-bad.ensures.one_of_them)
 
 pub write-actions-requires : goal.write-actions-requires
 write-actions-requires c =
     let few = length-take c.min.result c.args.steps.now.items in
-    let same = ap length c.first-steps.ensures.as-many-as-there-are in
+    let same = ap length c.first-steps.ensures.as_many_as_there_are in
     omega (arith, few, same, c.min.ensures)

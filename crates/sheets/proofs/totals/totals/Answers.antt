@@ -5,8 +5,8 @@ use Rattle.sheets.proofs.totals.totals.Goals as goal
 
 pub returns : goal.returns
 returns c = record {
-  of-the-answers = search rules;
-  of-their-history = λ h v of_them waits.
-      totalled _ _ _ _ h v c.both-all.ensures.each-sum (c.tally-during.ensures.of-their-history h of_them)
-      (c.tally-after.ensures.of-the-answers ∙ ap tally_of waits) (c.pending.ensures.of-their-history h v of_them waits);
+  of_the_answers = search rules;
+  of_their_history = λ h v of_them waits.
+      totalled _ _ _ _ h v c.both-all.ensures.each_sum (c.tally-during.ensures.of_their_history h of_them)
+      (c.tally-after.ensures.of_the_answers ∙ ap tally_of waits) (c.pending.ensures.of_their_history h v of_them waits);
 }

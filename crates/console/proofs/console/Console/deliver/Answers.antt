@@ -6,6 +6,6 @@ use Rattle.console.proofs.console.Console.deliver.Goals as goal
 
 pub returns : goal.returns
 returns g c = record {
-  as-the-machine-does = (ap (λ r. answered (delivered r.0) r.1 r.2) c.deliver.ensures.answer, c.deliver.ensures.after);
-  goes-on-balanced = goes_on g.met.A.Link.lawful g.met.B.Link.lawful g.met.C.Link.lawful g.met.W.Watch.lawful _ _ _ _ (ap (λ r. answered (delivered r.0) r.1 r.2) c.deliver.ensures.answer, c.deliver.ensures.after);
+  as_the_machine_does = (ap (λ r. answered (delivered r.0) r.1 r.2) c.deliver.ensures.answer, c.deliver.ensures.after);
+  goes_on_balanced = goes_on g.met.A.Link.lawful g.met.B.Link.lawful g.met.C.Link.lawful g.met.W.Watch.lawful _ _ _ _ (ap (λ r. answered (delivered r.0) r.1 r.2) c.deliver.ensures.answer, c.deliver.ensures.after);
 }

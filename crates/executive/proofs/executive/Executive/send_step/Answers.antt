@@ -13,18 +13,18 @@ returns-in-Ok g c =
     let sent = meaning g.A.Link g.B.Link g.C.Link g.W.Watch c.send-answer.new.self in
     let r = c.args.run in
     let more = ap (λ (k : ℕ). with_desk sent (with_run sent.desk (Some (record { id = r.id; number = r.number; step = r.step; sent = k; state = Sent c.args.link })))) c.saturating-add.ensures in
-    let is = sym c.in-Ok.is ∙ c.in-step.ensures.fault-with-its-step ∙ ap (λ (k : ℕ). in_step k c.send-answer.result) c.standing.ensures.from-1 in
+    let is = sym c.in-Ok.is ∙ c.in_step.ensures.fault_with_its_step ∙ ap (λ (k : ℕ). in_step k c.send-answer.result) c.standing.ensures.from_1 in
     record {
-      sent-or-its-fault = more ∙ steps m sent c.send-answer.result (Ok c.in-Ok.field-0) r c.args.link c.args.command is
-          c.send-answer.ensures.blocked-before-offered c.send-answer.ensures.that-link-only c.send-answer.ensures.desk-as-it-was;
+      sent_or_its_fault = more ∙ steps m sent c.send-answer.result (Ok c.in-Ok.field-0) r c.args.link c.args.command is
+          c.send-answer.ensures.blocked_before_offered c.send-answer.ensures.that_link_only c.send-answer.ensures.desk_as_it_was;
     }
 
 pub returns-in-Err : goal.returns-in-Err
 returns-in-Err g c =
     let m = meaning g.A.Link g.B.Link g.C.Link g.W.Watch c.args.self.now in
     let sent = meaning g.A.Link g.B.Link g.C.Link g.W.Watch c.send-answer.new.self in
-    let is = sym c.in-Err.is ∙ c.in-step.ensures.fault-with-its-step ∙ ap (λ (k : ℕ). in_step k c.send-answer.result) c.standing.ensures.from-1 in
+    let is = sym c.in-Err.is ∙ c.in_step.ensures.fault_with_its_step ∙ ap (λ (k : ℕ). in_step k c.send-answer.result) c.standing.ensures.from_1 in
     record {
-      sent-or-its-fault = steps m sent c.send-answer.result (Err c.in-Err.fault) c.args.run c.args.link c.args.command is
-          c.send-answer.ensures.blocked-before-offered c.send-answer.ensures.that-link-only c.send-answer.ensures.desk-as-it-was;
+      sent_or_its_fault = steps m sent c.send-answer.result (Err c.in-Err.fault) c.args.run c.args.link c.args.command is
+          c.send-answer.ensures.blocked_before_offered c.send-answer.ensures.that_link_only c.send-answer.ensures.desk_as_it_was;
     }

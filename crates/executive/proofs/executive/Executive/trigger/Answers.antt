@@ -13,20 +13,20 @@ returns-in-Ok g c =
     let m = meaning g.A.Link g.B.Link g.C.Link g.W.Watch c.args.self.now in
     let sent = meaning g.A.Link g.B.Link g.C.Link g.W.Watch c.send.new.self in
     let told = ap (λ (l : Log). with_desk sent (with_log sent.desk l)) c.park.ensures.started in
-    let after = c.send.ensures.that-link-only ∙ ap (λ (n : ℕ). after_send m c.args.link c.args.command (owner.Telecommand n)) c.number.ensures.its_own in
+    let after = c.send.ensures.that_link_only ∙ ap (λ (n : ℕ). after_send m c.args.link c.args.command (owner.Telecommand n)) c.number.ensures.its_own in
     record {
-      pending-or-failed = told ∙ triggers m sent (Ok c.in-Ok.field-0) c.args.ticket.number c.args.link c.args.command
-          (sym c.in-Ok.is ∙ c.send.ensures.blocked-before-offered) after c.send.ensures.desk-as-it-was;
+      pending_or_failed = told ∙ triggers m sent (Ok c.in-Ok.field-0) c.args.ticket.number c.args.link c.args.command
+          (sym c.in-Ok.is ∙ c.send.ensures.blocked_before_offered) after c.send.ensures.desk_as_it_was;
     }
 
 pub returns-in-Err : goal.returns-in-Err
 returns-in-Err g c =
     let m = meaning g.A.Link g.B.Link g.C.Link g.W.Watch c.args.self.now in
     let sent = meaning g.A.Link g.B.Link g.C.Link g.W.Watch c.send.new.self in
-    let told = ap (λ (l : Log). with_desk sent (with_log sent.desk l)) c.settle.ensures.one-final-report in
+    let told = ap (λ (l : Log). with_desk sent (with_log sent.desk l)) c.settle.ensures.one_final_report in
     let fault = ap (λ (f : Fault). with_desk sent (settled c.args.ticket.number (Some f) sent.desk)) c.from.ensures in
-    let after = c.send.ensures.that-link-only ∙ ap (λ (n : ℕ). after_send m c.args.link c.args.command (owner.Telecommand n)) c.number.ensures.its_own in
+    let after = c.send.ensures.that_link_only ∙ ap (λ (n : ℕ). after_send m c.args.link c.args.command (owner.Telecommand n)) c.number.ensures.its_own in
     record {
-      pending-or-failed = told ∙ fault ∙ triggers m sent (Err c.in-Err.fault) c.args.ticket.number c.args.link c.args.command
-          (sym c.in-Err.is ∙ c.send.ensures.blocked-before-offered) after c.send.ensures.desk-as-it-was;
+      pending_or_failed = told ∙ fault ∙ triggers m sent (Err c.in-Err.fault) c.args.ticket.number c.args.link c.args.command
+          (sym c.in-Err.is ∙ c.send.ensures.blocked_before_offered) after c.send.ensures.desk_as_it_was;
     }
