@@ -5,7 +5,7 @@ use Rattle.records.specs.declared.command.Command.{Command}
 use Rattle.links.specs.declared.answers.OfferRefusal.TheVariants.{Spent}
 use Rattle.links.specs.Polls.{polled_times}
 use Rattle.stand_ins.specs.declared.script.Cue.{Cue}
-use Rattle.stand_ins.specs.Plays.{idle_at, offered_at, Plays, PlaysAnyReplies}
+use Rattle.stand_ins.specs.Plays.{idle_at, offered_at, Plays}
 use Rattle.stand_ins.specs.Scripts.{ScriptedState, blank_cue, cued_reply, scripted_means, scripted_offered, scripted_polled, scripted_kind}
 
 -- the command of a cue held, after so many polls that found nothing

@@ -126,6 +126,6 @@ fn script_is_played_in_order(rt: HostRuntime) {
     }
     assert_eq!(rt; answered(&mut link, COMMAND), (3, (2, 9, 8)));
     assert_eq!(rt; answered(&mut link, COMMAND), (0, (0, 0, 0)));
-    assert_eq!(rt; ScriptedLink::<Hasty>::longest_wait(), 1);
-    assert_eq!(rt; ScriptedLink::<Patient>::longest_wait(), 50);
+    assert_eq!(rt; Scripted::<Hasty>::longest_wait(), 1);
+    assert_eq!(rt; Scripted::<Patient>::longest_wait(), 50);
 }

@@ -14,8 +14,8 @@ fn see_in_turn<W: Watch>(
     function: u32,
     values: (u32, u32, u32, u32),
 ) -> [Option<bool>; 4]
-    ensures answers { result ≡ answers_in_turn kind (state watch.old) function (values.0 ∷ values.1 ∷ values.2 ∷ values.3 ∷ []) }
-    ensures after { state watch.new ≡ state_in_turn kind (state watch.old) function (values.0 ∷ values.1 ∷ values.2 ∷ values.3 ∷ []) }
+    ensures answers { result ≡ answers_in_turn W.kind (W.state watch.old) function (values.0 ∷ values.1 ∷ values.2 ∷ values.3 ∷ []) }
+    ensures after { W.state watch.new ≡ state_in_turn W.kind (W.state watch.old) function (values.0 ∷ values.1 ∷ values.2 ∷ values.3 ∷ []) }
 {
     [
         watch.see(function, values.0),

@@ -2,15 +2,15 @@ use Rattle.std.proofs.Common.{sym, rules}
 use Rattle.stores.proofs.Waits.{room_by_count, put_fits, put_waits}
 use Rattle.stores.proofs.queue.put.Goals as goal
 
-pub returns-then-not-has-room : goal.returns-then-not-has-room
-returns-then-not-has-room g c = search (rules, room_by_count)
+pub returns-then-not-has_room : goal.returns-then-not-has_room
+returns-then-not-has_room g c = search (rules, room_by_count)
 
 pub returns : goal.returns
 returns g c =
     let places = c.args.places.now in
     let span = c.args.span.now in
-    let last = c.place-past-last.result in
-    let room = sym c.if-not-has-room.ensures.fits-with-one-more in
+    let last = c.place_past-last.result in
+    let room = sym c.if-not-has_room.ensures.fits_with_one_more in
     let fits = put_fits places span last c.args.newest room in
-    let waits = put_waits places span last c.args.newest room c.place-past-last.ensures.round-the-end in
+    let waits = put_waits places span last c.args.newest room c.place_past-last.ensures.round_the_end in
     search (rules, room_by_count, fits, waits)

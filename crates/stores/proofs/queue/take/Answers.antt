@@ -10,6 +10,6 @@ pub returns : goal.returns
 returns g c =
     let waits =
     take_waits c.args.places.now c.args.span.now
-    (λ none. c.if-counted-eq0.false (c.counted.ensures.none-unless-it-fits ∙ none))
+    (λ none. c.if-counted-eq0.false (c.counted.ensures.none_unless_it_fits ∙ none))
     c.index-places-span.result c.index-places-span.is in
     search (rules, take_fits, ap oldest waits, ap younger waits)
