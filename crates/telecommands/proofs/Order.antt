@@ -2,7 +2,7 @@
 use Rattle.std.proofs.Common.{◌≡◌, ℕ, ◌+◌, min, Bool, true, false, cond, not, eqb, ltb, List, [], ◌∷◌, length, get_or, is_some, Some, None, Ok, Err, Option, Result, sym, refl, subst, lit≤}
 use Rattle.octets.specs.Words.{word_at}
 use Rattle.records.specs.declared.refusal.Refusal.{Refusal}
-use Rattle.records.specs.declared.refusal.Refusal.TheVariants.{Short, Long, Length, Header, Crc, UnknownType, Shape}
+use Rattle.records.specs.declared.refusal.Refusal.TheVariants.{Short, Long, Length, Crc, Shape}
 use Rattle.telecommands.specs.declared.packet.Packet.{Packet}
 use Rattle.telecommands.specs.declared.packet_type.PacketType.{PacketType}
 use Rattle.telecommands.specs.Headers.{wrong_place, computed_word, stated_word}

@@ -1,5 +1,5 @@
 -- The fields of a packet that is read are the bytes at their places.
-use Rattle.std.proofs.Common.{◌≡◌, ℕ, ◌+◌, ◌-◌, ◌*◌, ◌/◌, ◌%◌, ◌<◌, ◌≤◌, min, Bool, true, cond, ◌&&◌, eqb, ltb, leb, List, ◌++◌, map, length, get_or, drop, replicate, Some, None, Ok, Err, Option, Result, sym, refl, ◌∙◌, subst, zero-add, arith}
+use Rattle.std.proofs.Common.{◌≡◌, ℕ, ◌+◌, ◌*◌, ◌%◌, ◌<◌, ◌≤◌, min, true, cond, ◌&&◌, eqb, ltb, leb, List, ◌++◌, map, length, get_or, drop, replicate, Some, None, Ok, Err, Option, Result, sym, refl, ◌∙◌, subst, zero-add, arith}
 use Rattle.std.specs.List.{range_with_len}
 use Rattle.std.proofs.lemmas.List.FromFn.{length-map-range_with_len, get_or-map-range_with_len}
 use Rattle.std.proofs.lemmas.List.{get_or_append_left}

@@ -1,6 +1,6 @@
 -- What an answer to a packet says of its bytes, check by check and field by field.
 use Rattle.std.specs.Prelude.{◌≡◌, ℕ, ◌+◌, ◌-◌, ◌*◌, ◌<◌, ◌≤◌, Bool, true, false, not, List, [], ◌∷◌, length, take, is_some, Some, None, Ok, Err, Option, Result, ◌==◌, nat_lt, slice_index, slice_index_or}
-use Rattle.std.specs.List.{AllByRecursion as All}
+use Rattle.std.specs.List.{AllByRecursion}
 use Rattle.octets.specs.Words.{word_at, long_at}
 use Rattle.records.specs.declared.refusal.Refusal.{Refusal}
 use Rattle.records.specs.Refusals.{refusal_number}
@@ -29,9 +29,9 @@ checks p =
 
 -- A packet that is read passes every check; one refused with a number passes every check before that one, and fails it.
 abbrev pub FirstFailing : List Bool → Result Packet Refusal → Type 0
-FirstFailing tests (Ok packet) = All (λ passed. passed ≡ true) tests
+FirstFailing tests (Ok packet) = AllByRecursion (λ passed. passed ≡ true) tests
 FirstFailing tests (Err refusal) =
-    (1 ≤ refusal_number refusal) × (refusal_number refusal ≤ 7) × All (λ passed. passed ≡ true) (take (refusal_number refusal - 1) tests)
+    (1 ≤ refusal_number refusal) × (refusal_number refusal ≤ 7) × AllByRecursion (λ passed. passed ≡ true) (take (refusal_number refusal - 1) tests)
     × (slice_index_or tests (refusal_number refusal - 1) true ≡ false)
 
 -- service, subtype and length of the packet

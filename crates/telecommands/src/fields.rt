@@ -59,8 +59,8 @@ impl Field for Setting {
 
 /// Reads so many fields into the first places, and leaves the others.
 pub fn read_fields<F: Field>(packet: &[u8], from: usize, count: usize, places: &mut [F])
-    requires { (count ≤ length places.old) × (from + size * count ≤ 248) }
-    ensures first_places { places.new ≡ fields_from (read packet.now) size from count ++ drop count places.old }
+    requires { (count ≤ length places.old) × (from + F.size * count ≤ 248) }
+    ensures first_places { places.new ≡ fields_from (F.read packet.now) F.size from count ++ drop count places.old }
 {
     for k in 0..count {
         places[k] = F::read(packet, from + F::size() * k);

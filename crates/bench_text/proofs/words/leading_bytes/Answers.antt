@@ -4,9 +4,9 @@ use Rattle.bench_text.specs.Words.{blanks_are}
 use Rattle.bench_text.proofs.Blanks.{wanted, unwanted}
 use Rattle.bench_text.proofs.words.leading_bytes.Goals as goal
 
-pub returns-then-is-blank-blanks : goal.returns-then-is-blank-blanks
-returns-then-is-blank-blanks c =
-    let no = unwanted _ _ _ c.is-blank.ensures.three-of-them c.if-is-blank-blanks.true in
+pub returns-then-is_blank-blanks : goal.returns-then-is_blank-blanks
+returns-then-is_blank-blanks c =
+    let no = unwanted _ _ _ c.is_blank.ensures.three_of_them c.if-is_blank-blanks.true in
     let stop = prefix_len-drop_no (blanks_are c.args.blanks) c.args.text.now c.loop-byte.byte-index 0 c.loop-byte-test.true no in
     record { longest_run = omega (arith, stop) }
 

@@ -1,4 +1,4 @@
-use Rattle.std.proofs.Common.{◌≡◌, ◌+◌, ◌*◌, ◌≤◌, arith}
+use Rattle.std.proofs.Common.{◌+◌, ◌*◌, ◌≤◌, arith}
 use Rattle.std.proofs.lemmas.Nat.{mul-le}
 use Rattle.telecommands.proofs.Filling.{filled_more}
 use Rattle.telecommands.proofs.fields.read_fields.Given as given
@@ -8,11 +8,11 @@ use Rattle.telecommands.proofs.fields.read_fields.Goals as goal
 within : (g : given.Over) (c : goal.After-size g) → c.args.from + c.size.result * c.loop-k.k ≤ 248
 within g c = omega (arith, mul-le c.size.result c.loop-k.k g.F.Field.size c.args.count (omega arith) (omega arith))
 
-pub overflow-mul-size : goal.overflow-mul-size
-overflow-mul-size g c = omega (arith, within g c)
+pub overflow_mul-size : goal.overflow_mul-size
+overflow_mul-size g c = omega (arith, within g c)
 
-pub overflow-add-from : goal.overflow-add-from
-overflow-add-from g c = omega (arith, within g c)
+pub overflow_add-from : goal.overflow_add-from
+overflow_add-from g c = omega (arith, within g c)
 
 pub read-requires : goal.read-requires
 read-requires g c = within g c
