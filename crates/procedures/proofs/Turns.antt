@@ -1,10 +1,15 @@
 -- Steps and settings taken one after the other.
-use Rattle.std.proofs.Common.{◌≡◌, ℕ, ◌+◌, ◌-◌, ◌<◌, Bool, true, false, cond, ◌&&◌, leb, List, [], ◌∷◌, ◌++◌, map, length, get_or, take, drop, set, is_some, Some, None, sym, refl, ap, ◌∙◌, append_assoc, arith}
-use Rattle.std.proofs.lemmas.List.{length-map, length-take, drop_more, set_at, map_more}
+use Rattle.std.proofs.Common.{◌≡◌, ℕ, ◌+◌, ◌-◌, ◌<◌, Bool, true, false, cond, ◌&&◌, leb, List, [], ◌∷◌, ◌++◌, map, length, get_or, take, drop, set, min, replicate, is_some, Some, None, Ok, Err, Result, sym, refl, ap, ◌∙◌, append_assoc, arith}
+use Rattle.std.proofs.lemmas.Bool.{eq-eqb}
+use Rattle.std.proofs.lemmas.List.{length-map, length-take, drop_min, drop_more, set_at, map_more}
 use Rattle.records.specs.declared.step.Step.{Step}
 use Rattle.telecommands.specs.declared.packet.Setting.{Setting}
 use Rattle.machine.specs.declared.state.Action.{Action}
-use Rattle.machine.specs.Procedures.{action_of, first_bad, Written, written_to}
+use Rattle.machine.specs.declared.state.Action.TheVariants.{Wait}
+use Rattle.machine.specs.declared.state.Procedure.{Procedure}
+use Rattle.machine.specs.Procedures.{action_of, action_in, first_bad, steps_in, loaded_with, Written, written_to}
+use Rattle.procedures.specs.Judging.{actions_from, judged_steps}
+use Rattle.telecommands.specs.declared.packet.Steps.{Steps}
 
 abbrev pub blank_step : Step
 blank_step = record { op = 0; b = 0; w = 0; u = 0; v = 0 }
@@ -52,3 +57,17 @@ actions_more f steps places k a h j e =
     ∙ set_at front (get_or places k a) rest a k short
     ∙ sym (append_assoc front (a ∷ []) rest)
     ∙ ap (λ (l : List Action). l ++ rest) (ap (λ (x : Action). front ++ x ∷ []) (sym e) ∙ sym (map_more f steps k blank_step h))
+
+-- steps that are all good make the procedure that the rule says
+pub all_good : (width nop : ℕ) (s : Steps) (actions : List Action) → length s.items ≡ 28 → first_bad width nop 1 (steps_in s) ≡ 0
+    → actions ≡ actions_from width nop (steps_in s) (replicate 28 (Wait 0))
+    → ◌≡◌ {A = Result Procedure ℕ} (Ok (record { nop = nop; parameters = replicate 25 0; actions = actions; count = s.count })) (judged_steps width nop s)
+all_good width nop s actions places good is =
+    let blank = replicate 28 (Wait 0) in
+    let bad = first_bad width nop 1 (steps_in s) in
+    let short : length (steps_in s) ≡ min s.count 28 = length-take s.count s.items ∙ ap (min s.count) places in
+    let rest : drop (length (steps_in s)) blank ≡ drop s.count blank = ap (λ (k : ℕ). drop k blank) short ∙ drop_min s.count blank in
+    let f = λ (step : Step). action_in (action_of width nop step) in
+    let same : actions ≡ map f (steps_in s) ++ drop s.count blank = is ∙ ap (λ (l : List Action). map f (steps_in s) ++ l) rest in
+    ap (λ (l : List Action). Ok (record { nop = nop; parameters = replicate 25 0; actions = l; count = s.count })) same
+    ∙ sym (ap (λ (b : Bool). cond b (Ok (loaded_with width nop s)) (Err bad)) (eq-eqb bad 0 good))

@@ -1,6 +1,7 @@
 -- Steps as actions, if all are good; the two activities that set something.
-use Rattle.std.specs.Prelude.{ℕ, cond, List, ◌++◌, map, length, drop, Ok, Err, Result, ◌==◌}
+use Rattle.std.specs.Prelude.{ℕ, cond, min, List, ◌++◌, map, length, drop, Ok, Err, Result, ◌==◌}
 use Rattle.records.specs.declared.step.Step.{Step}
+use Rattle.telecommands.specs.declared.packet.Settings.{Settings}
 use Rattle.telecommands.specs.declared.packet.Steps.{Steps}
 use Rattle.machine.specs.declared.state.Action.{Action}
 use Rattle.machine.specs.declared.state.Procedure.{Procedure}
@@ -15,6 +16,10 @@ actions_from width nop steps before = map (λ step. action_in (action_of width n
 abbrev pub judged_steps : ℕ → ℕ → Steps → Result Procedure ℕ
 judged_steps width nop s =
     cond (first_bad width nop 1 (steps_in s) == 0) (Ok (loaded_with width nop s)) (Err (first_bad width nop 1 (steps_in s)))
+
+-- settings with the largest count that a fault can name, which every packet's keep to
+abbrev pub fitted : Settings → Settings
+fitted s = record { items = s.items; count = min s.count 4294967295 }
 
 -- the two activities that set something, as in the rule for all
 abbrev pub setting_status : Desk → ℕ → ℕ → Outcome

@@ -66,7 +66,8 @@ fn write_actions(width: u32, nop: u16, steps: &[Step], actions: &mut [Action])
 pub fn procedure_of(width: u32, nop: u16, steps: &Steps) -> Result<Procedure, u32>
     ensures all_good_or_the_first_bad { result ≡ judged_steps width nop steps.now }
 {
-    let steps = first(&steps.items, steps.count.min(28));
+    let count = steps.count;
+    let steps = first(&steps.items, count);
     let bad = first_bad(width, nop, steps);
     if bad != 0 {
         return Err(bad as u32);
@@ -77,6 +78,6 @@ pub fn procedure_of(width: u32, nop: u16, steps: &Steps) -> Result<Procedure, u3
         nop,
         parameters: [0; 25],
         actions,
-        count: steps.len(),
+        count,
     })
 }

@@ -4,6 +4,7 @@ ghost use Rattle.desks.specs.Desked.{desk_of};
 ghost use Rattle.desks.specs.Logs.{fault_in};
 ghost use Rattle.machine.specs.Desks.{with_procedure};
 ghost use Rattle.machine.specs.Procedures.{Outcome, is_procedure, loading, deleting, writing, setting_parameters, starting};
+ghost use Rattle.procedures.specs.Judging.{fitted};
 
 use crate::settings::write_in_turn;
 use crate::steps::procedure_of;
@@ -12,6 +13,9 @@ use desks::items::{first, item, set_item};
 use machine::state::Procedure;
 use records::fault::{Fault, FaultKind};
 use telecommands::packet::{Settings, Steps};
+
+/// The largest count that a fault can name; a packet's is far below.
+const MOST_COUNTED: usize = 0xFFFF_FFFF;
 
 fn is_procedure(id: u16) -> bool
     ensures from_1_to_16 { result ≡ is_procedure id }
@@ -73,13 +77,14 @@ fn write(
     mut procedure: Procedure,
     settings: &Settings,
 ) -> Result<(), Fault>
-    ensures written_or_fault { ◌≡◌ {A = Outcome} (record { desk = desk_of desk.exit.now; fault = fault_in result }) (writing (desk_of desk.entry.now) id procedure settings.now) }
+    ensures written_or_fault { ◌≡◌ {A = Outcome} (record { desk = desk_of desk.exit.now; fault = fault_in result }) (writing (desk_of desk.entry.now) id procedure (fitted settings.now)) }
 {
     let nop = procedure.nop;
-    if settings.count > nop {
-        return Err(FaultKind::TooManyParameters.fault(u32::from(settings.count)));
+    let count = settings.count.min(MOST_COUNTED);
+    if count > usize::from(nop) {
+        return Err(FaultKind::TooManyParameters.fault(count as u32));
     }
-    let settings = first(&settings.items, usize::from(settings.count));
+    let settings = first(&settings.items, count);
     let illegal = write_in_turn(&mut procedure.parameters, nop, settings);
     set_procedure(desk, id, Some(procedure));
     match illegal {
@@ -89,7 +94,7 @@ fn write(
 }
 
 pub fn set_parameters(desk: &mut Desk, id: u16, settings: &Settings) -> Result<(), Fault>
-    ensures written_or_fault { ◌≡◌ {A = Outcome} (record { desk = desk_of desk.exit.now; fault = fault_in result }) (setting_parameters (desk_of desk.entry.now) id settings.now) }
+    ensures written_or_fault { ◌≡◌ {A = Outcome} (record { desk = desk_of desk.exit.now; fault = fault_in result }) (setting_parameters (desk_of desk.entry.now) id (fitted settings.now)) }
 {
     if !is_procedure(id) {
         return Err(FaultKind::InvalidProcedure.fault(u32::from(id)));
@@ -102,7 +107,7 @@ pub fn set_parameters(desk: &mut Desk, id: u16, settings: &Settings) -> Result<(
 
 /// Judges a start and writes its parameters; the run itself begins elsewhere.
 pub fn prepare(desk: &mut Desk, id: u16, settings: &Settings) -> Result<(), Fault>
-    ensures written_or_fault { ◌≡◌ {A = Outcome} (record { desk = desk_of desk.exit.now; fault = fault_in result }) (starting (desk_of desk.entry.now) id settings.now) }
+    ensures written_or_fault { ◌≡◌ {A = Outcome} (record { desk = desk_of desk.exit.now; fault = fault_in result }) (starting (desk_of desk.entry.now) id (fitted settings.now)) }
 {
     if !is_procedure(id) {
         return Err(FaultKind::InvalidProcedure.fault(u32::from(id)));

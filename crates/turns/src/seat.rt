@@ -36,7 +36,7 @@ pub fn offer<L: Link>(
     command: Command,
     owner: Owner,
 ) -> Result<(), OfferRefusal>
-    ensures as_the_link_answers { result ≡ offer_answer (kind.means (state seat.old.link)) }
+    ensures as_the_link_answers { result ≡ offer_answer (L.kind.means (L.state seat.old.link)) }
     ensures noted_if_taken { seat_of L.Link seat.new ≡ seat_offered command owner (seat_of L.Link seat.old) }
 {
     let answer = seat.link.offer(command);
@@ -54,7 +54,7 @@ pub fn abandon<L: Link>(seat: &mut Seat<L>)
 }
 
 pub fn receive<L: Link>(seat: &mut Seat<L>, bytes: &[u8]) -> Receipt
-    ensures as_the_link_answers { result ≡ receipt (kind.means (state seat.old.link)) (kind.means (kind.received (state seat.old.link) bytes.now)) }
+    ensures as_the_link_answers { result ≡ receipt (L.kind.means (L.state seat.old.link)) (L.kind.means (L.kind.received (L.state seat.old.link) bytes.now)) }
     ensures only_the_link { seat_of L.Link seat.new ≡ seat_received bytes.now (seat_of L.Link seat.old) }
 {
     seat.link.receive(bytes)

@@ -5,8 +5,8 @@ use Rattle.machine.specs.Procedures.{action_of, first_bad}
 use Rattle.procedures.proofs.Turns.{bad_none, bad_stops, bad_on, blank_step}
 use Rattle.procedures.proofs.steps.first_bad.Goals as goal
 
-pub returns-then-is-none : goal.returns-then-is-none
-returns-then-is-none c =
+pub returns-then-is_none : goal.returns-then-is_none
+returns-then-is_none c =
     let xs : List Step = c.args.steps.now in
     let i : ℕ = c.loop-at.at in
     let s : Step = get_or xs i blank_step in

@@ -15,7 +15,7 @@ loop-at-preserved c =
 pub returns : goal.returns
 returns c =
     let f = λ (s : Step). action_in (action_of c.args.width c.args.nop s) in
-    let end : c.loop-at.at ≡ length c.args.steps.now = omega (arith, c.loop-at-test.false, c.loop-at.auto.at_end) in
+    let end : c.loop-at.at ≡ length c.args.steps.now = omega (arith, c.loop-at-test.false, c.loop-at.auto.at-end) in
     let all : take c.loop-at.at c.args.steps.now ≡ c.args.steps.now = take_all c.loop-at.at c.args.steps.now (omega arith) in
     record {
       first_places = c.loop-at.invariant ∙ ap (λ (xs : List Step). map f xs ++ drop c.loop-at.at c.args.actions.now) all
