@@ -34,11 +34,12 @@ use Rattle.machine.specs.Calls.{Call, submit, deliver, tick, sample, collect, an
 use Rattle.machine.specs.Desks.{Desk, with_log, with_run, with_status, raised_on, is_blocked, procedure_at, settled, failed_run, passed}
 use Rattle.machine.specs.Machine.{Machine, Answer, collected_from, handed, spent_on, action_at, offer_fault, parameter_of, with_desk, with_seats, means_at, received_at, width_of, triggered_by, triggered, performed, stopped_run, stopping, done, stopped, outcome_of, carried_out, numbered_in, acceptance, submitted_by, sent_by, stepped, stepped_in, stepped_run, turn0, turn1, turn2, changes, trouble_after, sample_refusal, after_sample_by}
 use Rattle.machine.specs.Procedures.{setting, loading, deleting, setting_parameters, starting}
+use Rattle.machine.specs.Sizes.{Few, FewIn}
 use Rattle.machine.specs.Runs.{History, Ran, report_by, collected_in}
 use Rattle.machine.specs.Seats.{Seat, Ending, acknowledged, broken, answered_run, answered_procedure, ended_for, ended, link_event, Turn, older, age_of, loudly, polled_turn, turn, seat_received}
 use Rattle.machine.specs.Written.{Bounded, AllBounded}
 use Rattle.machine.proofs.Adding.{RightEnd}
-use Rattle.machine.proofs.Fewness.{Few, FewIn, few_read}
+use Rattle.machine.proofs.Fewness.{few_read}
 use Rattle.machine.proofs.Fitting.{Fit, FitRun, FitState, Sends, fit_same, reported_fit, settled_fit, failed_fit, passed_fit, spent_fit, sent_fit, loaded_at, action_sends, setting_fit, loading_fit, deleting_fit, parameters_fit, starting_fit, begun_fit, fit_made, run_few}
 use Rattle.machine.proofs.Ordering.{setting_right, loading_right, deleting_right, parameters_right, starting_right}
 

@@ -12,6 +12,7 @@ pub mod Raised
 pub mod Runs
 pub mod Samples
 pub mod Seats
+pub mod Sizes
 pub mod Submits
 pub mod Ticks
 pub mod Written

@@ -1,6 +1,7 @@
 // What each telecommand does, under its ticket.
-ghost use Rattle.std.specs.Prelude.{◌≡◌};
+ghost use Rattle.std.specs.Prelude.{◌≡◌, ◌≤◌};
 ghost use Rattle.machine.specs.Machine.{triggered, performed, stopped_run, stopped, carried_out};
+ghost use Rattle.machine.specs.Sizes.{Few};
 ghost use Rattle.telecommands.specs.declared.packet.Telecommand.TheVariants.{Start};
 ghost use Rattle.executive.specs.Meaning.{meaning};
 
@@ -53,6 +54,7 @@ impl<A: Link, B: Link, C: Link, W: Watch> Executive<A, B, C, W> {
 
     /// A start that is judged good begins its run.
     fn start(&mut self, ticket: Ticket, id: u16, settings: &Settings)
+        requires { settings.now.count ≤ 38 }
         ensures runs_or_failed { meaning A.Link B.Link C.Link W.Watch self.new ≡ carried_out (Start id settings.now) ticket.number (meaning A.Link B.Link C.Link W.Watch self.old) }
     {
         match prepare(&mut self.desk, id, settings) {
@@ -105,6 +107,7 @@ impl<A: Link, B: Link, C: Link, W: Watch> Executive<A, B, C, W> {
     }
 
     pub(crate) fn carry_out(&mut self, ticket: Ticket, telecommand: Telecommand)
+        requires { Few telecommand }
         ensures as_its_type_says { meaning A.Link B.Link C.Link W.Watch self.new ≡ carried_out telecommand ticket.number (meaning A.Link B.Link C.Link W.Watch self.old) }
     {
         match telecommand {

@@ -12,7 +12,7 @@ use turns::seat::Seat;
 use watches::watch::Watch;
 
 fn seated<L: Link>(link: L) -> Seat<L>
-    ensures nothing_held { seat_of L.Link result ≡ seat_abandoned (record { link = state link; hold = None }) }
+    ensures nothing_held { seat_of L.Link result ≡ seat_abandoned (record { link = L.state link; hold = None }) }
 {
     let mut link = link;
     link.abandon();

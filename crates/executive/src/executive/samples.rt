@@ -96,7 +96,7 @@ impl<A: Link, B: Link, C: Link, W: Watch> Executive<A, B, C, W> {
 
     /// Hands out the oldest event, else the oldest report.
     pub fn collect(&mut self) -> (Handed, u32, u32)
-        ensures answer { (handing_of result.0, (result.1, result.2)) ≡ tupled (collect_answer (meaning A.Link B.Link C.Link W.Watch self.old)) }
+        ensures answer { (handing_of result.0, result.1, result.2) ≡ tupled (collect_answer (meaning A.Link B.Link C.Link W.Watch self.old)) }
         ensures after { meaning A.Link B.Link C.Link W.Watch self.new ≡ after_collect (meaning A.Link B.Link C.Link W.Watch self.old) }
     {
         (self.desk.log.take(), 0, 0)

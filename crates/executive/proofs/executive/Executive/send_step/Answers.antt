@@ -12,7 +12,7 @@ returns-in-Ok g c =
     let m = meaning g.A.Link g.B.Link g.C.Link g.W.Watch c.args.self.now in
     let sent = meaning g.A.Link g.B.Link g.C.Link g.W.Watch c.send-answer.new.self in
     let r = c.args.run in
-    let more = ap (λ (k : ℕ). with_desk sent (with_run sent.desk (Some (record { id = r.id; number = r.number; step = r.step; sent = k; state = Sent c.args.link })))) c.saturating-add.ensures in
+    let more = ap (λ (k : ℕ). with_desk sent (with_run sent.desk (Some (record { id = r.id; number = r.number; step = r.step; sent = k; state = Sent c.args.link })))) c.saturating_add.ensures in
     let is = sym c.in-Ok.is ∙ c.in_step.ensures.fault_with_its_step ∙ ap (λ (k : ℕ). in_step k c.send-answer.result) c.standing.ensures.from_1 in
     record {
       sent_or_its_fault = more ∙ steps m sent c.send-answer.result (Ok c.in-Ok.field-0) r c.args.link c.args.command is
