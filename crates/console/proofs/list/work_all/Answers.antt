@@ -12,8 +12,8 @@ loop-call-preserved g c =
     let m = machine_of g.A.Link g.B.Link g.C.Link g.W.Watch c.args.console.now in
     let before = machine_of g.A.Link g.B.Link g.C.Link g.W.Watch c.loop-call.console in
     let after = machine_of g.A.Link g.B.Link g.C.Link g.W.Watch c.work.new.self in
-    let both = all_more m before after c.args.calls.now c.loop-call.call-index c.call-item.result (vec_items c.loop-call.answers) (vec_items c.push-reserved.new.self)
-    c.work.result c.loop-call-test.true c.call-item.is c.push-reserved.ensures.items c.loop-call.invariant.2 c.loop-call.invariant.3 c.work.ensures.as_the_machine_does in
+    let both = all_more m before after c.args.calls.now c.loop-call.call-index c.call-item.result (vec_items c.loop-call.answers) (vec_items c.push_reserved.new.self)
+    c.work.result c.loop-call-test.true c.call-item.is c.push_reserved.ensures.items c.loop-call.invariant.2 c.loop-call.invariant.3 c.work.ensures.as_the_machine_does in
     (search rules, search rules, both.0, both.1)
 
 pub loop-call-init : goal.loop-call-init

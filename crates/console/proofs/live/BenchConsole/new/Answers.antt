@@ -8,7 +8,7 @@ use Rattle.machine.proofs.Benching.{bench_new}
 use Rattle.console.specs.Benches.{bench_of}
 use Rattle.console.proofs.live.BenchConsole.new.Goals as goal
 
-pub invariant-of-result : goal.invariant-of-result
-invariant-of-result c =
+pub invariant_of-result : goal.invariant_of-result
+invariant_of-result c =
     let is : bench_of c.new-8.result ≡ bench = search rules in
-    (∣ ([], subst (λ (m : Machine wire_kind processor_kind processor_kind bench_watch). New m) (sym is) bench_new) ∣₁, tt)
+    record { ran = ∣ ([], subst (λ (m : Machine wire_kind processor_kind processor_kind bench_watch). New m) (sym is) bench_new) ∣₁ }

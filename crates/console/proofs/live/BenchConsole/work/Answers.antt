@@ -2,8 +2,8 @@ use Rattle.std.proofs.Common.{◌∷◌}
 use mathlib.Core.Logic.{∥∥₁_map}
 use Rattle.console.proofs.live.BenchConsole.work.Goals as goal
 
-pub invariant-of-self : goal.invariant-of-self
-invariant-of-self c = (∥∥₁_map c.args.self.now.ran (λ p. (_ ∷ p.0, c.work.ensures.goes_on_balanced.run p.0 p.1)), tt)
+pub invariant_of-self : goal.invariant_of-self
+invariant_of-self c = record { ran = ∥∥₁_map c.args.self.now.ran (λ p. (_ ∷ p.0, c.work.ensures.goes_on_balanced.run p.0 p.1)) }
 
 pub returns : goal.returns
 returns c = record {
