@@ -13,6 +13,7 @@ use Rattle.machine.specs.Parts as parts
 use Rattle.records.specs.declared.event.Event.{Event}
 use Rattle.records.specs.declared.report.Report.{Report}
 use Rattle.watches.specs.Meaning.{WatchKind}
+use Rattle.machine.specs.Outcomes.{told_of}
 use Rattle.sheets.specs.Rest.{hands_nothing, events_waiting, reports_waiting, emptied}
 
 module _ {K0 K1 K2 : LinkKind} {W : WatchKind} where
@@ -61,7 +62,7 @@ module _ {K0 K1 K2 : LinkKind} {W : WatchKind} where
     pub else_same : emptied m ≡ emptied start
 
   module _ (start m : Machine K0 K1 K2 W) (out : List Answer) (a : Answer) (n : Machine K0 K1 K2 W) (so : Emptying start out m) (step : Steps m collect (answer_of a) n) where
-    pub one_more : (longer : List Answer) → longer ≡ out ++ a ∷ [] → false ≡ hands_nothing a.outcome → Emptying start longer n
+    pub one_more : (longer : List Answer) → longer ≡ out ++ a ∷ [] → false ≡ hands_nothing (told_of a.outcome) → Emptying start longer n
     one_more longer pushed some =
         let one = handed_out m (answer_of a) n step some in
         record {
@@ -70,7 +71,7 @@ module _ {K0 K1 K2 : LinkKind} {W : WatchKind} where
           else_same = one.others ∙ so.else_same;
         }
 
-    pub all_out : true ≡ hands_nothing a.outcome → (map answer_of out ≡ waiting start) × (n ≡ emptied start)
+    pub all_out : true ≡ hands_nothing (told_of a.outcome) → (map answer_of out ≡ waiting start) × (n ≡ emptied start)
     all_out none =
         let last = nothing_out m (answer_of a) n step none in
         (sym (append-nil (map answer_of out)) ∙ ap (λ (l : List (parts.Answer Told)). map answer_of out ++ l) (sym last.0) ∙ so.all, last.1 ∙ so.else_same)

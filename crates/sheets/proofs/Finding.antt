@@ -8,6 +8,7 @@ use Rattle.console.specs.Consoles.{answer_of}
 use Rattle.machine.specs.Calls.{Told}
 use Rattle.machine.specs.Balance.{is_final, finals_of}
 use Rattle.machine.specs.Parts as parts
+use Rattle.machine.specs.Outcomes.{told_of}
 use Rattle.machine.specs.Runs.{History, collected_in, reports_in}
 use Rattle.records.specs.declared.report.Report.{Report}
 use Rattle.records.specs.declared.report.Stage.{Stage}
@@ -29,11 +30,11 @@ abbrev pub found_in : ℕ → List Answer → Option Stage
 found_in n answers = first_final n (reports_of (map answer_of answers))
 
 module _ (n : ℕ) (answers : List Answer) (i : ℕ) where
-  pub found_more : (d : Answer) (first : Option Stage) → i < length answers → found_in n answers ≡ found_in n (drop i answers) → first ≡ first_final n (reports_in (get_or answers i d).outcome)
+  pub found_more : (d : Answer) (first : Option Stage) → i < length answers → found_in n answers ≡ found_in n (drop i answers) → first ≡ first_final n (reports_in (told_of (get_or answers i d).outcome))
       → found_in n answers ≡ or_else first (found_in n (drop (i + 1) answers))
   found_more d first more so is =
       so ∙ at_drop_more (found_in n) answers i d more
-      ∙ first_append n (reports_in (get_or answers i d).outcome) (reports_of (map answer_of (drop (i + 1) answers)))
+      ∙ first_append n (reports_in (told_of (get_or answers i d).outcome)) (reports_of (map answer_of (drop (i + 1) answers)))
       ∙ ap (λ (o : Option Stage). or_else o (found_in n (drop (i + 1) answers))) (sym is)
 
   pub found_none : length answers ≤ i → found_in n (drop i answers) ≡ None

@@ -2,6 +2,7 @@
 ghost use Rattle.std.specs.Prelude.{◌≡◌, not, map, reverse, is_some, ◌==◌};
 ghost use Rattle.console.specs.Consoles.{answer_of};
 ghost use Rattle.machine.specs.Balance.{finals_of};
+ghost use Rattle.machine.specs.Outcomes.{told_of};
 ghost use Rattle.machine.specs.Runs.{History, collected_in, reports_in};
 ghost use Rattle.sheets.specs.Finals.{final_stage, first_final};
 ghost use Rattle.sheets.specs.Histories.{answers_in, reports_of};
@@ -21,7 +22,7 @@ fn final_stage(stage: Stage) -> Option<Stage>
 }
 
 fn final_in(answer: &Answer, number: u32) -> Option<Stage>
-    ensures in_a_report_of_the_number { result ≡ first_final number (reports_in answer.now.outcome) }
+    ensures in_a_report_of_the_number { result ≡ first_final number (reports_in (told_of answer.now.outcome)) }
 {
     let Outcome::Collected {
         handed: Handed::Report { report },

@@ -2,6 +2,7 @@
 ghost use Rattle.std.specs.Prelude.{◌≡◌, map, IfOk};
 ghost use Rattle.console.specs.Consoles.{answer_of, machine_of};
 ghost use Rattle.machine.specs.Laws.{handings};
+ghost use Rattle.machine.specs.Outcomes.{told_of};
 ghost use Rattle.sheets.specs.Rest.{hands_nothing, emptied, events_waiting, reports_waiting};
 
 use console::call::{Answer, Call};
@@ -12,7 +13,7 @@ use std::alloc::{AllocError, Global};
 use watches::watch::Watch;
 
 fn hands_nothing(answer: &Answer) -> bool
-    ensures of_a_collect { result ≡ hands_nothing answer.now.outcome }
+    ensures of_a_collect { result ≡ hands_nothing (told_of answer.now.outcome) }
 {
     match answer.outcome {
         Outcome::Collected {

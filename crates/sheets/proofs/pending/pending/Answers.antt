@@ -9,8 +9,8 @@ use Rattle.sheets.proofs.pending.pending.Goals as goal
 
 pub loop-answer-preserved : goal.loop-answer-preserved
 loop-answer-preserved c = (
-  open_more (reports_of (map answer_of c.args.answers.now) ++ reports_of (map answer_of c.args.rest.now)) c.args.answers.now c.loop-answer.answer-index _ _ _ c.loop-answer-test.true c.loop-answer.invariant.0 c.pending-by-count.ensures.given_and_pending,
-  omega (arith, c.pending-by-count.ensures.one_at_most),
+  open_more (reports_of (map answer_of c.args.answers.now) ++ reports_of (map answer_of c.args.rest.now)) c.args.answers.now c.loop-answer.answer-index _ _ _ c.loop-answer-test.true c.loop-answer.invariant.0 c.pending_by-count.ensures.given_and_pending,
+  omega (arith, c.pending_by-count.ensures.one_at_most),
 )
 
 pub returns : goal.returns

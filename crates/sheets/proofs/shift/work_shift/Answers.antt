@@ -12,7 +12,7 @@ returns g c =
     let calls = map call_of c.args.calls.now in
     let begun = made g.A.Link.kind g.B.Link.kind g.C.Link.kind g.W.Watch.kind (g.A.Link.state c.args.link0) (g.B.Link.state c.args.link1) (g.C.Link.state c.args.link2) (g.W.Watch.state c.args.watch) in
     let answered = c.in_ok-console.ensures.answers_of_the_machine in
-    let sliced = ap (λ (l : List Answer). map answer_of l) c.as-slice.ensures.value in
+    let sliced = ap (λ (l : List Answer). map answer_of l) c.as_slice.ensures.value in
     record {
       answers_of_the_machine = answered;
       balanced_if_fresh = λ fresh.
