@@ -13,9 +13,9 @@ some_bytes : (bytes : List ℕ) → false ≡ eqb (length bytes) 0 → message_t
 some_bytes [] some = absurd (false≢true some)
 some_bytes (byte ∷ more) some = refl
 
-pub returns-then-is-empty : goal.returns-then-is-empty
-returns-then-is-empty c = record {
-  how_many_and_which = simp (no_bytes c.args.bytes.now c.if-is-empty.ensures) c.write.ensures.bytes;
+pub returns-then-is_empty : goal.returns-then-is_empty
+returns-then-is_empty c = record {
+  how_many_and_which = simp (no_bytes c.args.bytes.now c.if-is_empty.ensures) c.write.ensures.bytes;
 }
 
 pub returns : goal.returns
@@ -23,6 +23,6 @@ returns c =
     let length_of = codes "message " ++ (decimal (length c.args.bytes.now) ++ codes " ") in
     record {
       how_many_and_which =
-          simp (some_bytes c.args.bytes.now c.if-is-empty.ensures)
+          simp (some_bytes c.args.bytes.now c.if-is_empty.ensures)
           (simp append_assoc at (both_added _ _ length_of _ _ _ c.in_ok-write.ensures.bytes c.write_hex.ensures.two_digits_to_a_byte));
     }
