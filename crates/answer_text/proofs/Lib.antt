@@ -1,2 +1,1 @@
 pub mod Hexes
-pub mod Texts

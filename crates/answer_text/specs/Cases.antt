@@ -1,5 +1,5 @@
 -- Worked lines and numbers, and that what is printed of a number or a byte means it.
-use Rattle.std.specs.Prelude.{◌≡◌, ℕ, ◌^◌, ◌<◌, true, false, List, [], ◌∷◌, ◌++◌, Ok, Err, codes, decimal, slice_index}
+use Rattle.std.specs.Prelude.{◌≡◌, ℕ, ◌^◌, ◌<◌, true, false, [], ◌∷◌, ◌++◌, Ok, Err, codes, decimal, slice_index}
 use Rattle.std.specs.Str.Parse.{IsNumeral, digits_value}
 use Rattle.links.specs.declared.answers.Receipt.TheVariants.{Kept, Ignored}
 use Rattle.machine.specs.Parts as out

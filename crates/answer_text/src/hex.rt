@@ -3,7 +3,7 @@ ghost use Rattle.std.specs.Prelude.{◌≡◌, ◌<◌};
 ghost use Rattle.answer_text.specs.Added.{Added};
 ghost use Rattle.answer_text.specs.Hex.{hex_digit, hex_of};
 
-use std::fmt;
+use std::alloc::AllocError;
 
 fn hex_digit(half: u8) -> char
     requires below_16 { half < 16 }
@@ -18,7 +18,7 @@ fn hex_digit(half: u8) -> char
 }
 
 /// Two digits to a byte, the high half first.
-pub fn write_hex(line: &mut String, bytes: &[u8]) -> fmt::Result
+pub fn write_hex(line: &mut String, bytes: &[u8]) -> Result<(), AllocError>
     ensures two_digits_to_a_byte { Added result (hex_of bytes.now) line.old line.new }
 {
     for byte in bytes {

@@ -7,16 +7,16 @@ ghost use Rattle.answer_text.specs.Lines.{counts_text, answer_line, message_line
 use crate::hex::write_hex;
 use crate::outcomes::write_outcome;
 use machine::answers::Outcome;
-use std::fmt;
+use std::alloc::AllocError;
 
 /// The end of every line.
-fn write_counts(line: &mut String, raised: u32, lost: u32) -> fmt::Result
+fn write_counts(line: &mut String, raised: u32, lost: u32) -> Result<(), AllocError>
     ensures raised_then_lost { Added result (counts_text raised lost) line.old line.new }
 {
     writeln!(line, " raised {raised} lost {lost}")
 }
 
-fn write_message_text(line: &mut String, bytes: &[u8]) -> fmt::Result
+fn write_message_text(line: &mut String, bytes: &[u8]) -> Result<(), AllocError>
     ensures how_many_and_which { Added result (message_text bytes.now) line.old line.new }
 {
     if bytes.is_empty() {
@@ -33,7 +33,7 @@ pub fn write_answer(
     outcome: Outcome,
     raised: u32,
     lost: u32,
-) -> fmt::Result
+) -> Result<(), AllocError>
     ensures place_answer_and_counts { Added result (answer_line place (told_of outcome) raised lost) line.old line.new }
 {
     write!(line, "{place} ")?;
@@ -42,7 +42,7 @@ pub fn write_answer(
 }
 
 /// The answer to the question what a link would send now.
-pub fn write_message(line: &mut String, place: u64, bytes: &[u8]) -> fmt::Result
+pub fn write_message(line: &mut String, place: u64, bytes: &[u8]) -> Result<(), AllocError>
     ensures place_message_and_no_counts { Added result (message_line place bytes.now) line.old line.new }
 {
     write!(line, "{place} ")?;
@@ -51,7 +51,7 @@ pub fn write_message(line: &mut String, place: u64, bytes: &[u8]) -> fmt::Result
 }
 
 /// The answer to a line that makes no call.
-pub fn write_unreadable(line: &mut String, place: u64) -> fmt::Result
+pub fn write_unreadable(line: &mut String, place: u64) -> Result<(), AllocError>
     ensures place_and_no_counts { Added result (unreadable_line place) line.old line.new }
 {
     write!(line, "{place} unreadable")?;

@@ -10,9 +10,9 @@ use records::event::Event;
 use records::fault::Fault;
 use records::refusal::Refusal;
 use records::report::{Report, Stage};
-use std::fmt;
+use std::alloc::AllocError;
 
-fn write_refusal(line: &mut String, refusal: Refusal) -> fmt::Result
+fn write_refusal(line: &mut String, refusal: Refusal) -> Result<(), AllocError>
     ensures number_name_and_parameter { Added result (refused_text refusal) line.old line.new }
 {
     write!(
@@ -24,7 +24,7 @@ fn write_refusal(line: &mut String, refusal: Refusal) -> fmt::Result
     )
 }
 
-fn write_submitted(line: &mut String, answer: Result<u32, Refusal>) -> fmt::Result
+fn write_submitted(line: &mut String, answer: Result<u32, Refusal>) -> Result<(), AllocError>
     ensures accepted_or_refused { Added result (submitted_text answer) line.old line.new }
 {
     match answer {
@@ -42,7 +42,7 @@ fn receipt_word(receipt: Receipt) -> &'static str
     }
 }
 
-fn write_delivered(line: &mut String, answer: Result<Receipt, Refusal>) -> fmt::Result
+fn write_delivered(line: &mut String, answer: Result<Receipt, Refusal>) -> Result<(), AllocError>
     ensures receipt_or_refused { Added result (delivered_text answer) line.old line.new }
 {
     match answer {
@@ -57,7 +57,7 @@ fn state_word(trouble: bool) -> &'static str
     if trouble { "trouble" } else { "good" }
 }
 
-fn write_sampled(line: &mut String, answer: Result<bool, Refusal>) -> fmt::Result
+fn write_sampled(line: &mut String, answer: Result<bool, Refusal>) -> Result<(), AllocError>
     ensures state_or_refused { Added result (sampled_text answer) line.old line.new }
 {
     match answer {
@@ -66,7 +66,7 @@ fn write_sampled(line: &mut String, answer: Result<bool, Refusal>) -> fmt::Resul
     }
 }
 
-fn write_event(line: &mut String, event: Event) -> fmt::Result
+fn write_event(line: &mut String, event: Event) -> Result<(), AllocError>
     ensures number_name_place_and_value { Added result (event_text event) line.old line.new }
 {
     let Event { kind, place, value } = event;
@@ -78,7 +78,7 @@ fn write_event(line: &mut String, event: Event) -> fmt::Result
     )
 }
 
-fn write_fault(line: &mut String, fault: Fault) -> fmt::Result
+fn write_fault(line: &mut String, fault: Fault) -> Result<(), AllocError>
     ensures all_six_fields { Added result (fault_text fault) line.old line.new }
 {
     let Fault {
@@ -98,7 +98,7 @@ fn write_fault(line: &mut String, fault: Fault) -> fmt::Result
     write!(line, " step {step} code {code} detail {detail}")
 }
 
-fn write_stage(line: &mut String, stage: Stage) -> fmt::Result
+fn write_stage(line: &mut String, stage: Stage) -> Result<(), AllocError>
     ensures stage_sent_and_fault { Added result (stage_text stage) line.old line.new }
 {
     match stage {
@@ -111,7 +111,7 @@ fn write_stage(line: &mut String, stage: Stage) -> fmt::Result
     }
 }
 
-fn write_report(line: &mut String, report: Report) -> fmt::Result
+fn write_report(line: &mut String, report: Report) -> Result<(), AllocError>
     ensures number_and_stage { Added result (report_text report) line.old line.new }
 {
     let Report { number, stage } = report;
@@ -119,7 +119,7 @@ fn write_report(line: &mut String, report: Report) -> fmt::Result
     write_stage(line, stage)
 }
 
-fn write_handed(line: &mut String, handed: Handed) -> fmt::Result
+fn write_handed(line: &mut String, handed: Handed) -> Result<(), AllocError>
     ensures event_report_or_nothing { Added result (handed_text (handing_of handed)) line.old line.new }
 {
     match handed {
@@ -130,7 +130,7 @@ fn write_handed(line: &mut String, handed: Handed) -> fmt::Result
 }
 
 /// The answer to a call, without its counts.
-pub fn write_outcome(line: &mut String, outcome: Outcome) -> fmt::Result
+pub fn write_outcome(line: &mut String, outcome: Outcome) -> Result<(), AllocError>
     ensures by_the_call { Added result (outcome_text (told_of outcome)) line.old line.new }
 {
     match outcome {

@@ -1,7 +1,7 @@
 use Rattle.std.proofs.Common.{refl}
 use Rattle.std.specs.Fmt.{digits}
 use Rattle.std.proofs.lemmas.Fmt.{decimal_is_IsNumeral, first_decimal}
-use Rattle.answer_text.specs.Cases.{WorkedNumbers, MeansItself}
+use Rattle.answer_text.specs.Cases.{WorkedNumbers}
 use Rattle.answer_text.proofs.cases.numbers.Goals as goal
 
 worked : WorkedNumbers

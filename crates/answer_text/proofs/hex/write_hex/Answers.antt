@@ -1,6 +1,3 @@
-use Rattle.std.proofs.Common.{ℕ, List, ◌++◌, string_bytes, ap, ◌∙◌}
-use Rattle.std.proofs.lemmas.List.{take_all}
-use Rattle.answer_text.specs.Hex.{hex_of}
 use Rattle.answer_text.proofs.Hexes.{hex_none, hex_more}
 use Rattle.answer_text.proofs.hex.write_hex.Goals as goal
 
@@ -9,11 +6,4 @@ loop-byte-init c = hex_none _
 
 pub loop-byte-preserved : goal.loop-byte-preserved
 loop-byte-preserved c =
-    hex_more _ _ _ c.args.bytes.now _ c.hex-digit-high.result c.hex-digit-low.result c.loop-byte-test.true c.loop-byte.invariant c.hex-digit-high.ensures.lower_case c.hex-digit-high.ensures.ascii c.hex-digit-low.ensures.lower_case c.hex-digit-low.ensures.ascii c.in_ok-write.ensures.bytes
-
-pub returns : goal.returns
-returns c =
-    let whole = take_all c.loop-byte.byte-index c.args.bytes.now c.loop-byte-test.false in
-    record {
-      two_digits_to_a_byte = c.loop-byte.invariant ∙ ap (λ (l : List ℕ). string_bytes c.args.line.now ++ hex_of l) whole;
-    }
+    hex_more _ _ _ c.args.bytes.now _ c.hex_digit-high.result c.hex_digit-low.result c.loop-byte-test.true c.loop-byte.invariant c.hex_digit-high.ensures.lower_case c.hex_digit-high.ensures.ascii c.hex_digit-low.ensures.lower_case c.hex_digit-low.ensures.ascii c.in_ok-write.ensures.bytes
