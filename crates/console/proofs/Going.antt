@@ -1,11 +1,11 @@
 -- A call goes on with any run, and the run is balanced.
-use Rattle.std.proofs.Common.{◌≡◌, [], ◌∷◌}
+use Rattle.std.proofs.Common.{[], ◌∷◌}
 use Rattle.links.specs.Meaning.{LinkKind, Lawful}
 use Rattle.machine.specs.Calls.{Told}
 use Rattle.machine.specs.Calls as calls
 use Rattle.machine.specs.Machine.{Machine}
 use Rattle.machine.specs.Parts as parts
-use Rattle.machine.specs.Runs.{Entry, History, Ran}
+use Rattle.machine.specs.Runs.{History, Ran}
 use Rattle.machine.proofs.Balancing.{balanced}
 use Rattle.watches.specs.Meaning.{WatchKind, LawfulWatch}
 use Rattle.console.specs.Consoles.{Steps, GoesOn, BalancedThroughout}

@@ -1,5 +1,5 @@
 -- What a call adds to a run, on a console over any three links and any watch.
-use Rattle.std.specs.Prelude.{◌≡◌, ℕ, List, [], ◌∷◌, vec_items}
+use Rattle.std.specs.Prelude.{◌≡◌, ℕ, [], ◌∷◌, vec_items}
 use Rattle.executive.specs.Meaning.{meaning}
 use Rattle.links.specs.declared.link.Link as link
 use Rattle.links.specs.Meaning.{LinkKind}
@@ -9,7 +9,7 @@ use Rattle.machine.specs.Calls as calls
 use Rattle.machine.specs.Machine.{Machine}
 use Rattle.machine.specs.Outcomes.{told_of}
 use Rattle.machine.specs.Parts as parts
-use Rattle.machine.specs.Runs.{Entry, History, New, Ran}
+use Rattle.machine.specs.Runs.{History, New, Ran}
 use Rattle.watches.specs.declared.watch.Watch as watch
 use Rattle.watches.specs.Meaning.{WatchKind}
 use Rattle.console.specs.declared.call.Answer.{Answer}

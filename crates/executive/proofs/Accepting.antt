@@ -1,6 +1,5 @@
 -- A good packet that is refused leaves everything as it was.
-use Rattle.std.proofs.Common.{◌≡◌, ℕ, List, Ok, Err, Result, sym, refl, ap, ◌∙◌, arith}
-use Rattle.desks.specs.declared.ticket.Ticket.{Ticket}
+use Rattle.std.proofs.Common.{◌≡◌, ℕ, List, Ok, Err, Result, sym, ap, ◌∙◌, arith}
 use Rattle.desks.specs.Logs.{judged, issued, after_judged}
 use Rattle.links.specs.Meaning.{LinkKind}
 use Rattle.machine.specs.Desks.{Log, with_log}

@@ -1,5 +1,5 @@
 -- Telecommands about settings and procedures: what each leaves on the desk, and its fault.
-use Rattle.std.specs.Prelude.{ℕ, ◌+◌, ◌-◌, Bool, cond, ◌&&◌, List, [], ◌∷◌, ◌++◌, map, length, take, drop, replicate, is_some, Some, None, Option, ◌==◌, nat_le, nat_lt, slice_set}
+use Rattle.std.specs.Prelude.{ℕ, ◌+◌, ◌-◌, Bool, cond, ◌&&◌, List, [], ◌∷◌, ◌++◌, map, take, drop, replicate, is_some, Some, None, Option, ◌==◌, nat_le, nat_lt, slice_set}
 use Rattle.records.specs.declared.fault.Fault.{Fault}
 use Rattle.records.specs.declared.fault.FaultKind.{FaultKind}
 use Rattle.records.specs.declared.fault.FaultKind.TheVariants.{InvalidActivity, InvalidSid, InvalidParameter, InvalidWatched, InvalidProcedure, IllegalLoad, TooManyParameters, InvalidStep, EmptyProcedure, RunningProcedure, IllegalParameterId}

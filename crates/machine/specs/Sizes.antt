@@ -1,5 +1,5 @@
 -- How many steps or settings a telecommand has at most, as every packet that can be read keeps to.
-use Rattle.std.specs.Prelude.{ℕ, ◌≤◌, Ok, Err, Result}
+use Rattle.std.specs.Prelude.{◌≤◌, Ok, Err, Result}
 use Rattle.records.specs.declared.refusal.Refusal.{Refusal}
 use Rattle.telecommands.specs.declared.packet.Packet.{Packet}
 use Rattle.telecommands.specs.declared.packet.Telecommand.{Telecommand}

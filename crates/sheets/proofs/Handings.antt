@@ -8,7 +8,6 @@ use Rattle.machine.specs.Calls.{Told}
 use Rattle.machine.specs.Calls.{submitted, delivered, ticked, sampled, collected}
 use Rattle.machine.specs.Parts.{Answer}
 use Rattle.machine.specs.Runs.{History, reports_in, collected_in}
-use Rattle.records.specs.declared.report.Report.{Report}
 use Rattle.sheets.specs.Histories.{answers_in, reports_of}
 
 pub joined_append : {X A : Type 0} (f : X → List A) (xs ys : List X) → flat_map f (xs ++ ys) ≡ flat_map f xs ++ flat_map f ys

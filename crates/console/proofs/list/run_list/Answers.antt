@@ -1,4 +1,4 @@
-use Rattle.std.proofs.Common.{◌≡◌, map, vec_items, ap, ◌∙◌}
+use Rattle.std.proofs.Common.{map, vec_items, ap, ◌∙◌}
 use Rattle.machine.specs.Calls.{answers_to, after_all}
 use Rattle.machine.specs.Machine.{Machine}
 use Rattle.console.specs.Consoles.{call_of, answer_of, machine_of}

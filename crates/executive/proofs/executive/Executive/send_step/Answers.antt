@@ -1,4 +1,4 @@
-use Rattle.std.proofs.Common.{◌≡◌, ℕ, Some, Ok, Err, sym, ap, ◌∙◌}
+use Rattle.std.proofs.Common.{ℕ, Some, Ok, Err, sym, ap, ◌∙◌}
 use Rattle.desks.specs.Chains.{in_step}
 use Rattle.machine.specs.declared.state.RunState.TheVariants.{Sent}
 use Rattle.machine.specs.Desks.{with_run}

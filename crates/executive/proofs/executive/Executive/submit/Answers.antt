@@ -1,4 +1,4 @@
-use Rattle.std.proofs.Common.{◌≡◌, sym, ◌∙◌}
+use Rattle.std.proofs.Common.{sym, ◌∙◌}
 use Rattle.desks.specs.Logs.{log_of}
 use Rattle.executive.specs.Meaning.{meaning}
 use Rattle.executive.proofs.Accepting.{refused}

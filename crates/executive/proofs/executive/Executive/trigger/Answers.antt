@@ -1,4 +1,4 @@
-use Rattle.std.proofs.Common.{◌≡◌, ℕ, Some, Ok, Err, sym, ap, ◌∙◌}
+use Rattle.std.proofs.Common.{ℕ, Some, Ok, Err, sym, ap, ◌∙◌}
 use Rattle.machine.specs.declared.state.Owner.TheVariants as owner
 use Rattle.machine.specs.Desks.{Log, with_log, settled}
 use Rattle.machine.specs.Machine.{with_desk}
