@@ -7,7 +7,7 @@ use Rattle.telecommands.specs.declared.packet.Setting.{Setting}
 use Rattle.machine.specs.declared.state.Action.{Action}
 use Rattle.machine.specs.declared.state.Action.TheVariants.{Wait}
 use Rattle.machine.specs.declared.state.Procedure.{Procedure}
-use Rattle.machine.specs.Procedures.{action_of, action_in, first_bad, steps_in, loaded_with, Written, written_to}
+use Rattle.machine.specs.Procedures.{action_of, action_in, first_bad, steps_in, loaded_with, written_to}
 use Rattle.procedures.specs.Judging.{actions_from, judged_steps}
 use Rattle.telecommands.specs.declared.packet.Steps.{Steps}
 

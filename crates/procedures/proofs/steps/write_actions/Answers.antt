@@ -1,7 +1,6 @@
-use Rattle.std.proofs.Common.{◌≡◌, ℕ, ◌+◌, List, ◌++◌, map, length, take, drop, refl, ap, ◌∙◌, arith, rules}
+use Rattle.std.proofs.Common.{◌≡◌, ℕ, List, ◌++◌, map, length, take, drop, ap, ◌∙◌, arith, rules}
 use Rattle.std.proofs.lemmas.List.{take_all}
 use Rattle.records.specs.declared.step.Step.{Step}
-use Rattle.machine.specs.declared.state.Action.{Action}
 use Rattle.machine.specs.Procedures.{action_of, action_in}
 use Rattle.procedures.proofs.Turns.{actions_more}
 use Rattle.procedures.proofs.steps.write_actions.Goals as goal
