@@ -97,6 +97,14 @@ def own(root):
     return {n for n in names - library if not plain(n)}
 
 
+def recursion(line):
+    """The library's All by recursion under its own name: its plain All goes by index now, and nothing may have that name but it."""
+    if re.match(r"\s*(ghost |pub )*use ", line):
+        return line.replace("AllByRecursion as All}", "AllByRecursion}")
+    text = code(line)
+    return re.sub(r"(?<![\w'.-])All(?![\w'-])", "AllByRecursion", text) + line[len(text):]
+
+
 def main():
     words = [a for a in sys.argv[1:] if a != "--list"]
     root = words[0] if words else "."
@@ -109,6 +117,8 @@ def main():
         with open(path, encoding="utf-8") as f:
             text = f.read()
         new = WORD.sub(lambda m: spelled(m.group(0)) if m.group(0) in names else m.group(0), text)
+        if "AllByRecursion as All}" in new:
+            new = "\n".join(recursion(line) for line in new.split("\n"))
         if new != text:
             with open(path, "w", encoding="utf-8") as f:
                 f.write(new)

@@ -4,7 +4,7 @@ use Rattle.executive.specs.Meaning.{meaning}
 use Rattle.links.specs.declared.link.Link as link
 use Rattle.links.specs.Meaning.{LinkKind}
 use Rattle.machine.specs.Calls.{Told}
-use Rattle.machine.specs.Balance.{view_of, Balanced}
+use Rattle.machine.specs.Balance.{view_of, Balanced, RunTied}
 use Rattle.machine.specs.Calls as calls
 use Rattle.machine.specs.Machine.{Machine}
 use Rattle.machine.specs.Outcomes.{told_of}
@@ -40,12 +40,13 @@ module _ {K0 K1 K2 : LinkKind} {W : WatchKind} where
   abbrev pub Steps : Machine K0 K1 K2 W → calls.Call → parts.Answer Told → Machine K0 K1 K2 W → Type 0
   Steps m c a n = (a ≡ calls.answer_to m c) × (n ≡ calls.after m c)
 
-  -- any run that led here goes on with this call, and is balanced after it
+  -- any run that led here goes on with this call, and is balanced after it, links holding the procedure's commands just as the run waits
   pub record GoesOn (m : Machine K0 K1 K2 W) (c : calls.Call) (a : parts.Answer Told) (n : Machine K0 K1 K2 W) : Type 0 where
     pub run : (h : History) → Ran h m → Ran (record { call = c; answer = a } ∷ h) n
     pub balance : (h : History) → Ran h m → Balanced (record { call = c; answer = a } ∷ h) (view_of n)
+    pub tied : (h : History) → Ran h m → RunTied (view_of n)
 
   -- a run from a fresh machine, balanced at its beginning and after each call
   abbrev pub BalancedThroughout : History → Machine K0 K1 K2 W → Type 0
-  BalancedThroughout [] m = New m × Balanced [] (view_of m)
-  BalancedThroughout (e ∷ h) n = (m : Machine K0 K1 K2 W) × BalancedThroughout h m × Steps m e.call e.answer n × Balanced (e ∷ h) (view_of n)
+  BalancedThroughout [] m = New m × Balanced [] (view_of m) × RunTied (view_of m)
+  BalancedThroughout (e ∷ h) n = (m : Machine K0 K1 K2 W) × BalancedThroughout h m × Steps m e.call e.answer n × Balanced (e ∷ h) (view_of n) × RunTied (view_of n)

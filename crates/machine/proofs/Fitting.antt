@@ -1,6 +1,6 @@
 -- What loaded procedures, the run and waiting reports keep to: the three links, 28 steps, 28 commands.
 use Rattle.std.proofs.Common.{◌≡◌, ℕ, zero, suc, ◌+◌, ◌-◌, ◌<◌, ◌≤◌, min, Bool, cond, ◌&&◌, eqb, ltb, leb, List, [], ◌∷◌, ◌++◌, map, length, get_or, drop, replicate, is_some, Some, None, Option, sym, subst, arith}
-use Rattle.std.specs.List.{AllByRecursion as All}
+use Rattle.std.specs.List.{AllByRecursion}
 use Rattle.std.proofs.ByRecursion.{All-append, All-set, All-push}
 use Rattle.std.proofs.lemmas.Bool.{cond_both, and_parts, leb-true, ltb-true}
 use Rattle.std.proofs.lemmas.Bool.Decides.{nat_tests}
@@ -36,7 +36,7 @@ Sends (Expect f) = Unit {0}
 -- a loaded procedure has at most 28 steps
 abbrev pub Loaded : Option Procedure → Type 0
 Loaded None = Unit {0}
-Loaded (Some p) = (p.count ≤ 28) × All Sends p.actions
+Loaded (Some p) = (p.count ≤ 28) × AllByRecursion Sends p.actions
 
 -- no more commands were sent than there are steps up to the one where the run stands
 abbrev pub FitState : RunState → ℕ → ℕ → Type 0
@@ -48,14 +48,14 @@ FitRun None = Unit {0}
 FitRun (Some r) = (r.step < 28) × FitState r.state r.step r.sent
 
 pub record Fit (d : Desk) : Type 0 where
-  pub procedures : All Loaded d.procedures
+  pub procedures : AllByRecursion Loaded d.procedures
   pub run : FitRun d.run
   pub reports : AllBounded d.log.reports
 
 -- the same in all three is as fit
 pub fit_same : (d e : Desk) → e.procedures ≡ d.procedures → e.run ≡ d.run → e.log.reports ≡ d.log.reports → Fit d → Fit e
 fit_same d e p r l fit = record {
-  procedures = subst (All Loaded) (sym p) fit.procedures;
+  procedures = subst (AllByRecursion Loaded) (sym p) fit.procedures;
   run = subst FitRun (sym r) fit.run;
   reports = subst AllBounded (sym l) fit.reports;
 }
@@ -101,7 +101,7 @@ failed_fit r f d fit now =
     (state_few r.state r.step r.sent now.0 now.1, omega (arith, now.0))
 
 -- any place of a list, there or not
-all_read : {X : Type 0} (P : X → Type 0) (xs : List X) (i : ℕ) (d : X) → All P xs → P d → P (get_or xs i d)
+all_read : {X : Type 0} (P : X → Type 0) (xs : List X) (i : ℕ) (d : X) → AllByRecursion P xs → P d → P (get_or xs i d)
 all_read P [] i d all p = p
 all_read P (x ∷ xs) zero d all p = all.0
 all_read P (x ∷ xs) (suc i) d all p = all_read P xs i d all.1 p
@@ -157,15 +157,15 @@ action_in_sends : (a : Option Action) → SendsIf a → Sends (action_in a)
 action_in_sends None ok = tt
 action_in_sends (Some action) ok = ok
 
-all_sends : (width nop : ℕ) (steps : List Step) → All Sends (map (λ step. action_in (action_of width nop step)) steps)
+all_sends : (width nop : ℕ) (steps : List Step) → AllByRecursion Sends (map (λ step. action_in (action_of width nop step)) steps)
 all_sends width nop [] = tt
 all_sends width nop (s ∷ steps) = (action_in_sends (action_of width nop s) (step_sends width nop s), all_sends width nop steps)
 
-all_same : {X : Type 0} (P : X → Type 0) (n : ℕ) (x : X) → P x → All P (replicate n x)
+all_same : {X : Type 0} (P : X → Type 0) (n : ℕ) (x : X) → P x → AllByRecursion P (replicate n x)
 all_same P zero x p = tt
 all_same P (suc n) x p = (p, all_same P n x p)
 
-all_rest : {X : Type 0} (P : X → Type 0) (n : ℕ) (xs : List X) → All P xs → All P (drop n xs)
+all_rest : {X : Type 0} (P : X → Type 0) (n : ℕ) (xs : List X) → AllByRecursion P xs → AllByRecursion P (drop n xs)
 all_rest P zero xs all = all
 all_rest P (suc n) [] all = tt
 all_rest P (suc n) (x ∷ xs) all = all_rest P n xs all.1

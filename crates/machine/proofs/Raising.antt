@@ -1,6 +1,6 @@
 -- Every call adds events behind those that there are: those it raised, less those it lost.
 use Rattle.std.proofs.Common.{◌≡◌, ℕ, ◌+◌, ◌-◌, ◌≤◌, Bool, true, false, cond, ◌&&◌, ◌||◌, eqb, ltb, leb, List, [], ◌∷◌, ◌++◌, reverse, length, is_some, Some, None, Ok, Err, Option, Result, sym, refl, ap, ◌∙◌, append_assoc, append-nil, arith, length-append}
-use Rattle.std.specs.List.{AllByRecursion as All}
+use Rattle.std.specs.List.{AllByRecursion}
 use Rattle.std.proofs.ByRecursion.{All-append}
 use Rattle.std.proofs.lemmas.List.{reverse-append}
 use Rattle.std.proofs.lemmas.Bool.{cond_both}
@@ -83,7 +83,7 @@ record More (Of : Event → Type 0) (before after : List Event) (raised lost : �
   pub new : List Event
   pub behind : after ≡ before ++ new
   pub counted : length new + lost ≡ raised
-  pub told : All Of new
+  pub told : AllByRecursion Of new
 
 no_more : (Of : Event → Type 0) (xs ys : List Event) → ys ≡ xs → More Of xs ys 0 0
 no_more Of xs ys e = record { new = []; behind = e ∙ sym (append-nil xs); counted = refl; told = tt }

@@ -1,6 +1,6 @@
 -- Events in the order raised, and what each tells of the call that raised it.
 use Rattle.std.specs.Prelude.{◌≡◌, ℕ, ◌+◌, ◌≤◌, Bool, true, false, cond, List, [], ◌∷◌, ◌++◌, reverse, length, Ok, Err, Result, ◌≢◌}
-use Rattle.std.specs.List.{AllByRecursion as All}
+use Rattle.std.specs.List.{AllByRecursion}
 use Rattle.links.specs.Meaning.{LinkKind}
 use Rattle.records.specs.declared.event.Event.{Event}
 use Rattle.records.specs.declared.event.EventKind.{EventKind}
@@ -76,7 +76,7 @@ pub record AddsEvents (c : Call) (a : Answer Told) (before after : List Event) :
   pub new : List Event
   pub behind : after ≡ before ++ new
   pub counted : length new + a.lost ≡ a.raised
-  pub told : All (Tells c a.outcome) new
+  pub told : AllByRecursion (Tells c a.outcome) new
 
 -- Events come out in the order raised, each telling of the call that raised it.
 abbrev pub EventsInOrder : LinkKind → LinkKind → LinkKind → WatchKind → Type 0

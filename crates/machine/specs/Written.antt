@@ -1,6 +1,6 @@
 -- Reports in the order written: the class of every fault among them, their bounds, and that none is missing.
 use Rattle.std.specs.Prelude.{◌≡◌, ℕ, ◌≤◌, cond, List, [], ◌∷◌, ◌++◌, reverse, Ok, sum_by, ◌==◌}
-use Rattle.std.specs.List.{AllByRecursion as All}
+use Rattle.std.specs.List.{AllByRecursion}
 use Rattle.links.specs.Meaning.{LinkKind}
 use Rattle.records.specs.declared.report.Report.{Report}
 use Rattle.records.specs.declared.report.Stage.{Stage}
@@ -19,7 +19,7 @@ Classed (Done sent) = Unit {0}
 Classed (Failed sent fault) = fault.class ≡ class_of (fault_number fault.kind)
 
 abbrev pub AllClassed : List Report → Type 0
-AllClassed reports = All (λ r. Classed r.stage) reports
+AllClassed reports = AllByRecursion (λ r. Classed r.stage) reports
 
 -- a final report counts at most 28 commands, and its fault was met at no step above 28
 abbrev pub Bounded : Stage → Type 0
@@ -28,7 +28,7 @@ Bounded (Done sent) = sent ≤ 28
 Bounded (Failed sent fault) = (sent ≤ 28) × (fault.step ≤ 28)
 
 abbrev pub AllBounded : List Report → Type 0
-AllBounded reports = All (λ r. Bounded r.stage) reports
+AllBounded reports = AllByRecursion (λ r. Bounded r.stage) reports
 
 -- all reports there are, collected ones first, oldest first
 abbrev pub written : {K0 K1 K2 : LinkKind} {W : WatchKind} → History → Machine K0 K1 K2 W → List Report

@@ -1,7 +1,7 @@
 -- What the check word detects: each bit step can be undone, so two words that differ stay different.
 use Rattle.std.proofs.Common.{◌≡◌, ℕ, zero, suc, ◌+◌, ◌*◌, ◌/◌, ◌%◌, ◌<◌, cond, eqb, leb, List, [], ◌∷◌, ◌++◌, length, get_or, take, drop, set, fold, sym, refl, ap, ◌∙◌, add-one, arith}
 use lib.Bits.{bit_xor, xor_zero_r, xor_self, xor_assoc, xor_comm, xor_shifted, xor_lt}
-use Rattle.std.specs.List.{AllByRecursion as All}
+use Rattle.std.specs.List.{AllByRecursion}
 use Rattle.std.proofs.lemmas.Nat.{xor_mod}
 use Rattle.std.proofs.ByRecursion.{All-drop, All-from_get_or}
 use Rattle.std.proofs.lemmas.List.{set-get_or, set_split}
@@ -84,12 +84,12 @@ folded_below : (word : ℕ) (xs : List ℕ) → word < 0x10000 → fold byte_ste
 folded_below word [] h = h
 folded_below word (x ∷ xs) h = folded_below (byte_step word x) xs (byte_below word x)
 
-rest_apart : (back : List ℕ) (a b : ℕ) → All (λ (n : ℕ). n < 256) back → a < 0x10000 → b < 0x10000 → fold byte_step a back ≡ fold byte_step b back → a ≡ b
+rest_apart : (back : List ℕ) (a b : ℕ) → AllByRecursion (λ (n : ℕ). n < 256) back → a < 0x10000 → b < 0x10000 → fold byte_step a back ≡ fold byte_step b back → a ≡ b
 rest_apart [] a b all f g e = e
 rest_apart (x ∷ back) a b all f g e =
     words_apart a b x f g all.0 (rest_apart back (byte_step a x) (byte_step b x) all.1 (byte_below a x) (byte_below b x) e)
 
-byte_shows : (front back : List ℕ) (byte other : ℕ) → All (λ (n : ℕ). n < 256) back → byte < 256 → other < 256
+byte_shows : (front back : List ℕ) (byte other : ℕ) → AllByRecursion (λ (n : ℕ). n < 256) back → byte < 256 → other < 256
     → check_word (front ++ byte ∷ back) ≡ check_word (front ++ other ∷ back) → byte ≡ other
 byte_shows front back byte other all f g e =
     let word = check_word front in

@@ -7,7 +7,7 @@ use telecommands::packet::Setting;
 
 /// Writes settings up to the first with an ID that is none; answers that ID.
 pub fn write_in_turn(parameters: &mut [u32], nop: u16, settings: &[Setting]) -> Option<u16>
-    ensures those_before_stay_written { ◌≡◌ {A = Written} (record { parameters = parameters.exit.now; illegal = result }) (written_to nop parameters.entry.now settings.now) }
+    ensures those_before_stay_written { ◌≡◌ {A = Written} (record { parameters = parameters.new; illegal = result }) (written_to nop parameters.old settings.now) }
 {
     for setting in settings {
         if setting.id == 0 || setting.id > nop {

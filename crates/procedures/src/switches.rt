@@ -12,7 +12,7 @@ use records::fault::{Fault, FaultKind};
 use watches::watch::has_function;
 
 fn set_status(desk: &mut Desk, sid: u16, value: u32) -> Result<(), Fault>
-    ensures on_or_off { ◌≡◌ {A = Outcome} (record { desk = desk_of desk.exit.now; fault = fault_in result }) (setting_status (desk_of desk.entry.now) sid value) }
+    ensures on_or_off { ◌≡◌ {A = Outcome} (record { desk = desk_of desk.new; fault = fault_in result }) (setting_status (desk_of desk.old) sid value) }
 {
     if sid > 2 {
         return Err(FaultKind::InvalidSid.fault(u32::from(sid)));
@@ -32,7 +32,7 @@ fn set_status(desk: &mut Desk, sid: u16, value: u32) -> Result<(), Fault>
 }
 
 fn set_switch(desk: &mut Desk, width: u32, sid: u16, value: u32) -> Result<(), Fault>
-    ensures on_or_off { ◌≡◌ {A = Outcome} (record { desk = desk_of desk.exit.now; fault = fault_in result }) (setting_switch width (desk_of desk.entry.now) sid value) }
+    ensures on_or_off { ◌≡◌ {A = Outcome} (record { desk = desk_of desk.new; fault = fault_in result }) (setting_switch width (desk_of desk.old) sid value) }
 {
     if !has_function(width, u32::from(sid)) {
         return Err(FaultKind::InvalidWatched.fault(u32::from(sid)));
@@ -46,7 +46,7 @@ fn set_switch(desk: &mut Desk, width: u32, sid: u16, value: u32) -> Result<(), F
 
 /// Activity 1 sets a link's status, activity 2 a function on or off.
 pub fn set(desk: &mut Desk, width: u32, activity: u8, sid: u16, value: u32) -> Result<(), Fault>
-    ensures by_the_activity { ◌≡◌ {A = Outcome} (record { desk = desk_of desk.exit.now; fault = fault_in result }) (setting width (desk_of desk.entry.now) activity sid value) }
+    ensures by_the_activity { ◌≡◌ {A = Outcome} (record { desk = desk_of desk.new; fault = fault_in result }) (setting width (desk_of desk.old) activity sid value) }
 {
     match activity {
         1 => set_status(desk, sid, value),

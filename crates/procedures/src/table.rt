@@ -34,7 +34,7 @@ fn set_procedure(desk: &mut Desk, id: u16, procedure: Option<Procedure>)
 }
 
 pub fn load(desk: &mut Desk, width: u32, id: u16, nop: u16, steps: &Steps) -> Result<(), Fault>
-    ensures loaded_or_fault { ◌≡◌ {A = Outcome} (record { desk = desk_of desk.exit.now; fault = fault_in result }) (loading width (desk_of desk.entry.now) id nop steps.now) }
+    ensures loaded_or_fault { ◌≡◌ {A = Outcome} (record { desk = desk_of desk.new; fault = fault_in result }) (loading width (desk_of desk.old) id nop steps.now) }
 {
     if !is_procedure(id) {
         return Err(FaultKind::InvalidProcedure.fault(u32::from(id)));
@@ -55,7 +55,7 @@ pub fn load(desk: &mut Desk, width: u32, id: u16, nop: u16, steps: &Steps) -> Re
 }
 
 pub fn delete(desk: &mut Desk, id: u16) -> Result<(), Fault>
-    ensures emptied_or_fault { ◌≡◌ {A = Outcome} (record { desk = desk_of desk.exit.now; fault = fault_in result }) (deleting (desk_of desk.entry.now) id) }
+    ensures emptied_or_fault { ◌≡◌ {A = Outcome} (record { desk = desk_of desk.new; fault = fault_in result }) (deleting (desk_of desk.old) id) }
 {
     if !is_procedure(id) {
         return Err(FaultKind::InvalidProcedure.fault(u32::from(id)));
@@ -77,7 +77,7 @@ fn write(
     mut procedure: Procedure,
     settings: &Settings,
 ) -> Result<(), Fault>
-    ensures written_or_fault { ◌≡◌ {A = Outcome} (record { desk = desk_of desk.exit.now; fault = fault_in result }) (writing (desk_of desk.entry.now) id procedure (fitted settings.now)) }
+    ensures written_or_fault { ◌≡◌ {A = Outcome} (record { desk = desk_of desk.new; fault = fault_in result }) (writing (desk_of desk.old) id procedure (fitted settings.now)) }
 {
     let nop = procedure.nop;
     let count = settings.count.min(MOST_COUNTED);
@@ -94,7 +94,7 @@ fn write(
 }
 
 pub fn set_parameters(desk: &mut Desk, id: u16, settings: &Settings) -> Result<(), Fault>
-    ensures written_or_fault { ◌≡◌ {A = Outcome} (record { desk = desk_of desk.exit.now; fault = fault_in result }) (setting_parameters (desk_of desk.entry.now) id (fitted settings.now)) }
+    ensures written_or_fault { ◌≡◌ {A = Outcome} (record { desk = desk_of desk.new; fault = fault_in result }) (setting_parameters (desk_of desk.old) id (fitted settings.now)) }
 {
     if !is_procedure(id) {
         return Err(FaultKind::InvalidProcedure.fault(u32::from(id)));
@@ -107,7 +107,7 @@ pub fn set_parameters(desk: &mut Desk, id: u16, settings: &Settings) -> Result<(
 
 /// Judges a start and writes its parameters; the run itself begins elsewhere.
 pub fn prepare(desk: &mut Desk, id: u16, settings: &Settings) -> Result<(), Fault>
-    ensures written_or_fault { ◌≡◌ {A = Outcome} (record { desk = desk_of desk.exit.now; fault = fault_in result }) (starting (desk_of desk.entry.now) id (fitted settings.now)) }
+    ensures written_or_fault { ◌≡◌ {A = Outcome} (record { desk = desk_of desk.new; fault = fault_in result }) (starting (desk_of desk.old) id (fitted settings.now)) }
 {
     if !is_procedure(id) {
         return Err(FaultKind::InvalidProcedure.fault(u32::from(id)));

@@ -57,7 +57,7 @@ fn end(hold: Option<Hold>, answer: Result<(), LinkFault>, desk: &mut Desk)
 /// A command that ended with a fault: an event first. Answers the events raised and lost.
 pub fn fail(hold: Option<Hold>, event: Event, fault: LinkFault, desk: &mut Desk) -> (u32, u32)
     ensures one_raised { (result.0 ≤ 1) × (result.1 ≤ 1) }
-    ensures event_then_owner { ◌≡◌ {A = DeskAfter} (record { desk = desk_of desk.exit.now; raised = result.0; lost = result.1 }) (failed_with event (link_fault fault) hold (desk_of desk.entry.now)) }
+    ensures event_then_owner { ◌≡◌ {A = DeskAfter} (record { desk = desk_of desk.new; raised = result.0; lost = result.1 }) (failed_with event (link_fault fault) hold (desk_of desk.old)) }
 {
     let lost = desk.log.raise(event);
     end(hold, Err(fault), desk);
@@ -67,7 +67,7 @@ pub fn fail(hold: Option<Hold>, event: Event, fault: LinkFault, desk: &mut Desk)
 /// A command that its unit replied to.
 pub fn reply(place: u8, hold: Option<Hold>, reply: Reply, desk: &mut Desk) -> (u32, u32)
     ensures at_most_one_raised { (result.0 ≤ 1) × (result.1 ≤ 1) }
-    ensures by_the_reply { ◌≡◌ {A = DeskAfter} (record { desk = desk_of desk.exit.now; raised = result.0; lost = result.1 }) (replied reply place hold (desk_of desk.entry.now)) }
+    ensures by_the_reply { ◌≡◌ {A = DeskAfter} (record { desk = desk_of desk.new; raised = result.0; lost = result.1 }) (replied reply place hold (desk_of desk.old)) }
 {
     let link = u32::from(place);
     match reply {

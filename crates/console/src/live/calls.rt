@@ -1,6 +1,6 @@
 // The calls on the bench's console, balanced with no condition.
 ghost use Rattle.std.specs.Prelude.{◌≡◌, ◌∷◌, length, slice_index};
-ghost use Rattle.machine.specs.Balance.{view_of, Balanced};
+ghost use Rattle.machine.specs.Balance.{view_of, Balanced, RunTied};
 ghost use Rattle.machine.specs.Cases.{bench};
 ghost use Rattle.machine.specs.Machine.{message_of};
 ghost use Rattle.machine.specs.Runs.{Entry, History, Ran};
@@ -32,7 +32,7 @@ impl BenchConsole {
     /// Any of the five calls.
     pub fn work(&mut self, call: &Call) -> Answer
         ensures as_the_machine_does { Steps (live_of self.old) (call_of call.now) (answer_of result) (live_of self.new) }
-        ensures balanced { ∥ ((h : History) × Ran h (live_of self.old) × Balanced (record { call = call_of call.entry.now; answer = answer_of result } ∷ h) (view_of (live_of self.new))) ∥₁ }
+        ensures balanced { ∥ ((h : History) × Ran h (live_of self.old) × Balanced (record { call = call_of call.now; answer = answer_of result } ∷ h) (view_of (live_of self.new)) × RunTied (view_of (live_of self.new))) ∥₁ }
     {
         self.console.work(call)
     }

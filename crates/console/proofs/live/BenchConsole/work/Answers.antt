@@ -8,5 +8,5 @@ invariant_of-self c = record { ran = ∥∥₁_map c.args.self.now.ran (λ p. (_
 pub returns : goal.returns
 returns c = record {
   as_the_machine_does = c.work.ensures.as_the_machine_does;
-  balanced = ∥∥₁_map c.args.self.now.ran (λ p. (p.0, p.1, c.work.ensures.goes_on_balanced.balance p.0 p.1));
+  balanced = ∥∥₁_map c.args.self.now.ran (λ p. (p.0, p.1, c.work.ensures.goes_on_balanced.balance p.0 p.1, c.work.ensures.goes_on_balanced.tied p.0 p.1));
 }
