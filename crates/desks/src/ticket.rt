@@ -46,9 +46,9 @@ impl Ticket {
 }
 
 impl Drop for Ticket {
-    // Nobody can meet this, and nobody is to: an accepted telecommand is not to be forgotten.
+    // Numbers of accepted telecommands begin at 1, so a ticket that stands for one is not to be forgotten.
     fn drop(self)
-        requires { ⊥ }
+        requires { self.number ≡ 0 }
     {
         let Ticket { number: _ } = self;
     }
