@@ -3,7 +3,7 @@ ghost use Rattle.std.specs.Prelude.{◌≡◌, None};
 ghost use Rattle.stand_ins.specs.Plays.{PlaysAnyReplies};
 ghost use Rattle.stand_ins.specs.Scripted.{scripted_state};
 ghost use Rattle.stand_ins.specs.Scripts.{scripted_kind};
-ghost use Rattle.std.proofs.Common.{rules};
+ghost use Rattle.std.proofs.Common.{rules, arith};
 
 use crate::patience::Patience;
 use crate::script::Cue;
@@ -36,9 +36,9 @@ impl<P: Patience> Link for Scripted<P> {
 
     const WAIT_LIMIT: u32 = P::TICKS;
 
-    ghost lawful = { Prim.search rules };
+    ghost lawful = { first_of (Prim.search rules, Prim.grind (arith, Self.row.coded.inj)) };
 
-    ghost ok = { Prim.search rules };
+    ghost ok = { first_of (Prim.search rules, Prim.grind (arith, Self.row.coded.inj)) };
 
     fn longest_wait() -> u32 {
         P::limit()
