@@ -17,7 +17,6 @@ use std::{env, fs};
 use telecommands::read::read_packet;
 
 mod sheet;
-mod words;
 
 fn read_list<R: BufRead>(rt: &HostRuntime, reader: &mut R) -> anyhow::Result<CallList> {
     let mut list = CallList::new(rt.alloc());

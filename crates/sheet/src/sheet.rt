@@ -1,9 +1,9 @@
 // The lines of the telecommand sheet.
-use crate::words::show_telecommand;
 use records::fault::Fault;
 use records::report::Stage;
 use sheets::row::Row;
 use std::fmt;
+use telecommand_text::words::write_telecommand;
 use telecommands::packet::Packet;
 
 /// A submit, with what its packet says where it can be read.
@@ -46,7 +46,7 @@ fn show_packet<W: fmt::Write>(packet: &Option<Packet>, f: &mut fmt::Formatter<W>
     match packet {
         Some(packet) => {
             write!(f, ": ")?;
-            show_telecommand(&packet.telecommand, f)
+            write_telecommand(&packet.telecommand, f)
         }
         None => Ok(()),
     }

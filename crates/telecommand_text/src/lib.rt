@@ -1,0 +1,4 @@
+// Telecommands in words.
+#![tactic(auto)]
+
+pub mod words;

@@ -1,0 +1,130 @@
+// Telecommands in words, for people who read a sheet.
+ghost use Rattle.std.specs.Prelude.{◌≡◌, take};
+ghost use Rattle.std.specs.Fmt.{WritesOnOk};
+ghost use Rattle.telecommand_text.specs.Words.{is_wait, is_expect, raw_step_text, step_text, next_step_text, steps_text, setting_text, settings_text, telecommand_text};
+
+use records::step::Step;
+use std::fmt;
+use telecommands::packet::{Setting, Telecommand};
+
+fn is_wait(step: &Step) -> bool
+    ensures unused_fields_zero { result ≡ is_wait step.now }
+{
+    let Step { op, b, u, v, .. } = *step;
+    op == 2 && b == 0 && u == 0 && v == 0
+}
+
+fn is_expect(step: &Step) -> bool
+    ensures unused_fields_zero { result ≡ is_expect step.now }
+{
+    let Step { op, w, u, v, .. } = *step;
+    op == 3 && w == 0 && u == 0 && v == 0
+}
+
+fn write_raw_step<W: fmt::Write>(step: &Step, f: &mut fmt::Formatter<W>) -> fmt::Result
+    ensures every_field { WritesOnOk W.write_str_gives f.old result (raw_step_text step.now) f.new }
+{
+    let Step { op, b, w, u, v } = *step;
+    write!(f, "op {op} B {b} W {w}")?;
+    write!(f, " U {u} V {v}")
+}
+
+fn write_step<W: fmt::Write>(step: &Step, f: &mut fmt::Formatter<W>) -> fmt::Result
+    ensures by_its_operation { WritesOnOk W.write_str_gives f.old result (step_text step.now) f.new }
+{
+    let Step { op, b, w, u, v } = *step;
+    if op == 1 {
+        write!(f, "SEND link {b} command {w} SID {u} parameter {v}")
+    } else if is_wait(step) {
+        write!(f, "WAIT {w}")
+    } else if is_expect(step) {
+        write!(f, "EXPECT function {b}")
+    } else {
+        write_raw_step(step, f)
+    }
+}
+
+/// A step behind another.
+fn write_next_step<W: fmt::Write>(step: &Step, f: &mut fmt::Formatter<W>) -> fmt::Result
+    ensures semicolon_first { WritesOnOk W.write_str_gives f.old result (next_step_text step.now) f.new }
+{
+    write!(f, "; ")?;
+    write_step(step, f)
+}
+
+fn write_steps<W: fmt::Write>(steps: &[Step], f: &mut fmt::Formatter<W>) -> fmt::Result
+    ensures one_after_another { WritesOnOk W.write_str_gives f.old result (steps_text steps.now) f.new }
+{
+    let Some((first, others)) = steps.split_first() else {
+        return Ok(());
+    };
+    write_step(first, f)?;
+    for step in others {
+        write_next_step(step, f)?;
+    }
+    Ok(())
+}
+
+fn write_setting<W: fmt::Write>(setting: &Setting, f: &mut fmt::Formatter<W>) -> fmt::Result
+    ensures id_and_value { WritesOnOk W.write_str_gives f.old result (setting_text setting.now) f.new }
+{
+    let Setting { id, value } = *setting;
+    write!(f, ", parameter {id} = {value}")
+}
+
+fn write_settings<W: fmt::Write>(settings: &[Setting], f: &mut fmt::Formatter<W>) -> fmt::Result
+    ensures one_after_another { WritesOnOk W.write_str_gives f.old result (settings_text settings.now) f.new }
+{
+    for setting in settings {
+        write_setting(setting, f)?;
+    }
+    Ok(())
+}
+
+/// The first so many, or all where there are fewer.
+fn first<T>(items: &[T], count: usize) -> &[T]
+    ensures as_many_as_there_are { result.now ≡ take count items.now }
+{
+    if count < items.len() {
+        &items[..count]
+    } else {
+        items
+    }
+}
+
+/// What a telecommand says, without its counter.
+pub fn write_telecommand<W: fmt::Write>(
+    telecommand: &Telecommand,
+    f: &mut fmt::Formatter<W>,
+) -> fmt::Result
+    ensures in_words { WritesOnOk W.write_str_gives f.old result (telecommand_text telecommand.now) f.new }
+{
+    match telecommand {
+        Telecommand::Test => write!(f, "test connection"),
+        Telecommand::Perform {
+            function,
+            activity,
+            sid,
+            value,
+        } => {
+            write!(
+                f,
+                "perform activity: function {function}, activity {activity}, SID {sid}, value {value}"
+            )
+        }
+        Telecommand::Load { id, nop, steps } => {
+            write!(f, "load procedure {id}: NoP {nop}, steps: ")?;
+            write_steps(first(&steps.items, steps.count), f)
+        }
+        Telecommand::Delete { id } => write!(f, "delete procedure {id}"),
+        Telecommand::Start { id, settings } => {
+            write!(f, "start procedure {id}")?;
+            write_settings(first(&settings.items, settings.count), f)
+        }
+        Telecommand::Stop { id } => write!(f, "stop procedure {id}"),
+        Telecommand::Set { id, settings } => {
+            write!(f, "set parameters of procedure {id}")?;
+            write_settings(first(&settings.items, settings.count), f)
+        }
+    }
+}
