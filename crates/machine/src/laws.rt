@@ -1,6 +1,7 @@
 // The balance over every run, and laws of the machine, each a theorem on any links and watch.
 ghost use Rattle.machine.specs.Laws.{RunsBalance, RunsAreTied, WaitingIsHandedOut, RefusalsChangeNothing, RefusalsAreQuiet, RefusalsCanBeStruck, SentKeepsCounting, FreeIsWhatIsLeft, CountsOfTheHistory};
 ghost use Rattle.machine.specs.Raised.{EventsInOrder};
+ghost use Rattle.machine.specs.Sizes.{PacketsAreSmall};
 ghost use Rattle.machine.specs.Written.{ReportsInOrder, ReportsBounded, RunBounded, AcceptedIsReported, PendingWasStarted, StartedOnce};
 
 use links::link::Link;
@@ -54,4 +55,9 @@ pub fn accepted_is_reported<A: Link, B: Link, C: Link, W: Watch>()
     ensures in_its_own_call { AcceptedIsReported A.Link.kind B.Link.kind C.Link.kind W.Watch.kind }
     ensures started_once { StartedOnce A.Link.kind B.Link.kind C.Link.kind W.Watch.kind }
     ensures started_while_pending { PendingWasStarted A.Link.kind B.Link.kind C.Link.kind W.Watch.kind }
+{}
+
+/// At most 28 steps and 38 settings, so the bounds above hold of whatever is submitted.
+pub fn packets_are_small()
+    ensures few_steps_and_settings { PacketsAreSmall }
 {}

@@ -17,7 +17,7 @@ abbrev pub judged_steps : ℕ → ℕ → Steps → Result Procedure ℕ
 judged_steps width nop s =
     cond (first_bad width nop 1 (steps_in s) == 0) (Ok (loaded_with width nop s)) (Err (first_bad width nop 1 (steps_in s)))
 
--- settings with the largest count that a fault can name, which every packet's keep to
+-- settings counted up to the largest number that a fault can name; a packet's count is far below
 abbrev pub fitted : Settings → Settings
 fitted s = record { items = s.items; count = min s.count 4294967295 }
 

@@ -1,5 +1,5 @@
 // Telecommands in words, for people who read a sheet.
-ghost use Rattle.std.specs.Prelude.{◌≡◌, take};
+ghost use Rattle.std.specs.Prelude.{◌≡◌};
 ghost use Rattle.std.specs.Fmt.{WritesOnOk};
 ghost use Rattle.telecommand_text.specs.Words.{is_wait, is_expect, raw_step_text, step_text, next_step_text, steps_text, setting_text, settings_text, telecommand_text};
 
@@ -81,17 +81,6 @@ fn write_settings<W: fmt::Write>(settings: &[Setting], f: &mut fmt::Formatter<W>
     Ok(())
 }
 
-/// The first so many, or all where there are fewer.
-fn first<T>(items: &[T], count: usize) -> &[T]
-    ensures as_many_as_there_are { result.now ≡ take count items.now }
-{
-    if count < items.len() {
-        &items[..count]
-    } else {
-        items
-    }
-}
-
 /// What a telecommand says, without its counter.
 pub fn write_telecommand<W: fmt::Write>(
     telecommand: &Telecommand,
@@ -114,17 +103,29 @@ pub fn write_telecommand<W: fmt::Write>(
         }
         Telecommand::Load { id, nop, steps } => {
             write!(f, "load procedure {id}: NoP {nop}, steps: ")?;
-            write_steps(first(&steps.items, steps.count), f)
+            write_steps(steps.items.get(..steps.count).unwrap_or(&steps.items), f)
         }
         Telecommand::Delete { id } => write!(f, "delete procedure {id}"),
         Telecommand::Start { id, settings } => {
             write!(f, "start procedure {id}")?;
-            write_settings(first(&settings.items, settings.count), f)
+            write_settings(
+                settings
+                    .items
+                    .get(..settings.count)
+                    .unwrap_or(&settings.items),
+                f,
+            )
         }
         Telecommand::Stop { id } => write!(f, "stop procedure {id}"),
         Telecommand::Set { id, settings } => {
             write!(f, "set parameters of procedure {id}")?;
-            write_settings(first(&settings.items, settings.count), f)
+            write_settings(
+                settings
+                    .items
+                    .get(..settings.count)
+                    .unwrap_or(&settings.items),
+                f,
+            )
         }
     }
 }
