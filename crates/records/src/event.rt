@@ -1,8 +1,9 @@
 // What the executive tells of links and watched functions while it works.
 
-#[derive(Clone, Copy)]
+#[derive(Clone, Copy, Default)]
 pub enum EventKind {
     /// A function came into trouble.
+    #[default]
     Trouble,
     /// A function is good again.
     Clear,
@@ -15,7 +16,7 @@ pub enum EventKind {
 }
 
 /// The place is a function or a link; the value is the sample, a NACK's code, or 0.
-#[derive(Clone, Copy)]
+#[derive(Clone, Copy, Default)]
 pub struct Event {
     pub kind: EventKind,
     pub place: u32,

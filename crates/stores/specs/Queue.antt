@@ -38,8 +38,5 @@ rounded size place = cond (nat_lt place size) place (place - size)
 abbrev pub places_after_put : {A : Type 0} → Bool → List A → Span → A → List A
 places_after_put room places s newest = cond room (slice_set places (rounded (length places) (s.head + s.count)) newest) places
 
-abbrev pub at_start : Span
-at_start = record { head = 0; count = 0 }
-
 abbrev pub without_first : ℕ → Span → Span
 without_first size s = record { head = rounded size (s.head + 1); count = s.count - 1 }

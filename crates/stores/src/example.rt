@@ -1,7 +1,7 @@
 // An example of a store's use.
 ghost use Rattle.std.specs.Prelude.{◌≡◌, Some};
 
-use crate::event_store::EventStore;
+use crate::EventStore;
 use records::event::Event;
 
 /// Of three events put, the two taken, and how many still wait.

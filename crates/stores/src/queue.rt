@@ -1,98 +1,85 @@
-// A queue in lent places, for every kind of record. In a span that does not fit its places nothing waits, and there is no room.
-ghost use Rattle.std.specs.Prelude.{◌≡◌, ◌+◌, ◌<◌, ◌≤◌, false, ◌&&◌, [], length, if◌then◌else◌, None, nat_lt};
-ghost use Rattle.stores.specs.Queue.{fits_in, waiting, has_room, after_put, oldest, younger, rounded, places_after_put, at_start, without_first};
+// A queue in fixed memory, for every kind of record.
+ghost use Rattle.std.specs.Prelude.{◌≡◌, ◌≤◌, false, List, [], length, None, nat_lt};
+ghost use Rattle.stores.specs.Queue.{fits_in, waiting, has_room, after_put, oldest, younger, places_after_put};
 
 use crate::span::Span;
+use std::marker::Model;
 
-fn fits(size: usize, span: Span) -> bool
-    ensures head_and_count { result ≡ fits_in size span }
-{
-    span.head < size && span.count <= size
+/// At most `N` records that wait, oldest first. With no places, nothing waits and there is no room.
+#[derive(Drop)]
+pub struct Queue<T, const N: usize> {
+    places: [T; N],
+    span: Span,
 }
 
-fn counted(size: usize, span: Span) -> usize
-    ensures none_unless_it_fits { result ≡ (if fits_in size span then span.count else 0) }
-{
-    if fits(size, span) { span.count } else { 0 }
+// Clauses see what waits, oldest first.
+impl<T, const N: usize> Model for Queue<T, N> {
+    ghost Value = { List T };
+
+    ghost view = { λ q. waiting q.places q.span };
+
+    ghost invariant = { λ q. (length q.places ≡ N) × (fits_in N q.span ≡ nat_lt 0 N) };
 }
 
-fn has_room(size: usize, span: Span) -> bool
-    ensures fits_with_one_more { result ≡ (fits_in size span && nat_lt span.count size) }
-{
-    fits(size, span) && span.count < size
-}
-
-/// The place so many past another; past the last it goes on at the first.
-fn place_past(size: usize, place: usize, by: usize) -> usize
-    requires { (place < size) × (by ≤ size) }
-    ensures round_the_end { result ≡ rounded size (place + by) }
-{
-    let left = size - place;
-    if by < left { place + by } else { by - left }
-}
-
-fn without_first(size: usize, span: Span) -> Span
-    requires { (span.head < size) × (0 < span.count) }
-    ensures next_head { result ≡ without_first size span }
-{
-    Span {
-        head: place_past(size, span.head, 1),
-        count: span.count - 1,
-    }
-}
-
-fn at_start() -> Span
-    ensures head_and_count_are_0 { result ≡ at_start }
-{
-    Span { head: 0, count: 0 }
-}
-
-/// A span for a queue that begins empty.
-pub fn empty<T>(places: &[T]) -> Span
-    ensures nothing_waits { waiting places.now result ≡ [] }
-    ensures fits_if_any_place { fits_in (length places.now) result ≡ nat_lt 0 (length places.now) }
-{
-    at_start()
-}
-
-/// How many wait.
-pub fn how_many<T>(places: &[T], span: Span) -> usize
-    ensures all_that_wait { result ≡ length (waiting places.now span) }
-    ensures at_most_the_places { result ≤ length places.now }
-{
-    counted(places.len(), span)
-}
-
-/// Puts the newest behind the others. False where it has no room.
-pub fn put<T: Copy>(places: &mut [T], span: &mut Span, newest: T) -> bool
-    ensures true_if_room { result ≡ has_room places.old span.old }
-    ensures behind_the_others { waiting places.new span.new ≡ after_put result (waiting places.old span.old) newest }
-    ensures other_places_as_they_were { places.new ≡ places_after_put result places.old span.old newest }
-    ensures false_changes_nothing { result ≡ false → (places.new ≡ places.old) × (span.new ≡ span.old) }
-    ensures fits_as_before { fits_in (length places.new) span.new ≡ fits_in (length places.old) span.old }
+/// Writes the newest behind the last that waits. False where there is no room.
+fn write_behind<T: Copy>(places: &mut [T], span: Span, newest: T) -> bool
+    ensures true_if_room { result ≡ has_room places.old span }
+    ensures other_places_as_they_were { places.new ≡ places_after_put result places.old span newest }
 {
     let size = places.len();
-    if !has_room(size, *span) {
+    if !span.has_room(size) {
         return false;
     }
-    let last = place_past(size, span.head, span.count);
-    places[last] = newest;
-    span.count += 1;
+    places[span.behind(size)] = newest;
     true
 }
 
-/// Takes the oldest.
-pub fn take<T: Copy>(places: &[T], span: &mut Span) -> Option<T>
-    ensures the_oldest { result ≡ oldest (waiting places.now span.old) }
-    ensures the_younger_wait { waiting places.now span.new ≡ younger (waiting places.now span.old) }
-    ensures none_changes_nothing { result ≡ None → span.new ≡ span.old }
-    ensures fits_as_before { fits_in (length places.now) span.new ≡ fits_in (length places.now) span.old }
-{
-    let size = places.len();
-    if counted(size, *span) == 0 {
-        return None;
+impl<T: Copy + Default, const N: usize> Queue<T, N> {
+    pub fn new() -> Queue<T, N>
+        ensures nothing_waits { result ≡ [] }
+    {
+        Queue {
+            places: [T::default(); N],
+            span: Span { head: 0, count: 0 },
+        }
     }
-    let first = places[span.head];
-    *span = without_first(size, *span);
-    Some(first)
+}
+
+impl<T: Copy, const N: usize> Queue<T, N> {
+    /// Puts the newest behind the others. False where it has no room.
+    pub fn put(&mut self, newest: T) -> bool
+        ensures true_if_room { result ≡ nat_lt (length self.old) N }
+        ensures behind_the_others { self.new ≡ after_put result self.old newest }
+        ensures false_changes_nothing { result ≡ false → self.new ≡ self.old }
+    {
+        let room = write_behind(&mut self.places, self.span, newest);
+        if room {
+            self.span.count += 1;
+        }
+        room
+    }
+
+    /// Takes the oldest.
+    pub fn take(&mut self) -> Option<T>
+        ensures the_oldest { result ≡ oldest self.old }
+        ensures the_younger_wait { self.new ≡ younger self.old }
+        ensures none_changes_nothing { result ≡ None → self.new ≡ self.old }
+    {
+        if self.span.counted(N) == 0 {
+            return None;
+        }
+        let first = self.places[self.span.head];
+        self.span = self.span.without_first(N);
+        Some(first)
+    }
+}
+
+impl<T, const N: usize> Queue<T, N> {
+    /// How many wait.
+    pub fn len(&self) -> usize
+        ensures all_that_wait { result ≡ length self.now }
+        ensures at_most_the_places { result ≤ N }
+    {
+        self.span.counted(N)
+    }
 }
