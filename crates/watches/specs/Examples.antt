@@ -1,10 +1,5 @@
 -- Worked examples: what the functions of a watch answer to values seen in turn.
 use Rattle.std.specs.Prelude.{◌≡◌, ℕ, Bool, true, false, List, [], ◌∷◌, Some, None, Option}
-use Rattle.watches.specs.declared.band.Band.{Band}
-use Rattle.watches.specs.declared.moving.Moving.{Moving}
-use Rattle.watches.specs.declared.pair.Pair.{Pair}
-use Rattle.watches.specs.declared.still.Still.{Still}
-use Rattle.watches.specs.Kinds.{nothing_seen}
 use Rattle.watches.specs.Meaning.{WatchKind, see_answer}
 
 -- the answers of one function to values seen in turn
@@ -16,16 +11,6 @@ answers_in_turn K s f (v ∷ vs) = see_answer K s f v ∷ answers_in_turn K (K.s
 abbrev pub state_in_turn : (K : WatchKind) → K.State → ℕ → List ℕ → K.State
 state_in_turn K s f [] = s
 state_in_turn K s f (v ∷ vs) = state_in_turn K (K.seen s f v) f vs
-
--- a new watch of three functions: 1 is a Still, 2 a Moving, 3 a Band of 100 to 200
-abbrev pub new_watch : Pair Still (Pair Moving Band)
-new_watch = record {
-  left = record { last = nothing_seen };
-  right = record {
-    left = record { last = nothing_seen };
-    right = record { lowest = 100; highest = 200; trouble = false };
-  };
-}
 
 -- the three answers
 abbrev pub refused : Option Bool

@@ -1,3 +1,4 @@
+pub mod Benches
 pub mod Examples
 pub mod Kinds
 pub mod Meaning

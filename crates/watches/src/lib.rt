@@ -2,6 +2,8 @@
 #![tactic(auto)]
 
 pub mod band;
+pub mod bench;
+pub mod comparing;
 pub mod examples;
 mod last_seen;
 pub mod moving;

@@ -7,7 +7,7 @@ ghost use Rattle.std.proofs.Common.{rules};
 use crate::part::{Part, pair_width, part_of};
 use crate::watch::Watch;
 
-#[derive(Drop)]
+#[derive(Clone, Copy, Drop)]
 pub struct Pair<L, R> {
     left: L,
     right: R,
@@ -36,17 +36,16 @@ impl<L: Watch, R: Watch> Watch for Pair<L, R> {
 
     fn in_trouble(&self, function: u32) -> bool {
         match part_of(self.left.width(), self.right.width(), function) {
-            Part::Left { number } => self.left.in_trouble(number),
-            Part::Right { number } => self.right.in_trouble(number),
-            Part::Neither => false,
+            Some(Part::Left(number)) => self.left.in_trouble(number),
+            Some(Part::Right(number)) => self.right.in_trouble(number),
+            None => false,
         }
     }
 
     fn see(&mut self, function: u32, value: u32) -> Option<bool> {
-        match part_of(self.left.width(), self.right.width(), function) {
-            Part::Left { number } => self.left.see(number, value),
-            Part::Right { number } => self.right.see(number, value),
-            Part::Neither => None,
+        match part_of(self.left.width(), self.right.width(), function)? {
+            Part::Left(number) => self.left.see(number, value),
+            Part::Right(number) => self.right.see(number, value),
         }
     }
 }

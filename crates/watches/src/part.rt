@@ -10,9 +10,8 @@ const WIDEST: u32 = 23;
 /// The part that has a function of a pair, with the function's number there.
 #[derive(Clone, Copy)]
 pub enum Part {
-    Left { number: u32 },
-    Right { number: u32 },
-    Neither,
+    Left(u32),
+    Right(u32),
 }
 
 pub fn pair_width(left: u32, right: u32) -> u32
@@ -22,17 +21,15 @@ pub fn pair_width(left: u32, right: u32) -> u32
 }
 
 /// Finds a function in a pair of parts of these widths.
-pub fn part_of(left: u32, right: u32, function: u32) -> Part
+pub fn part_of(left: u32, right: u32, function: u32) -> Option<Part>
     ensures left_functions_first { result ≡ part_of left right function }
 {
     if !has_function(pair_width(left, right), function) {
-        return Part::Neither;
+        return None;
     }
-    if function <= left {
-        Part::Left { number: function }
+    Some(if function <= left {
+        Part::Left(function)
     } else {
-        Part::Right {
-            number: function - left,
-        }
-    }
+        Part::Right(function - left)
+    })
 }
