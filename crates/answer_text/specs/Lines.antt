@@ -1,7 +1,8 @@
 -- The lines that are printed.
 use Rattle.std.specs.Prelude.{ℕ, List, [], ◌∷◌, ◌++◌, codes, decimal}
 use Rattle.machine.specs.Calls.{Told}
-use Rattle.answer_text.specs.Answers.{spaced, outcome_text, message_text}
+use Rattle.records.specs.Texts.{spaced}
+use Rattle.answer_text.specs.Answers.{outcome_text, message_text}
 
 -- place, answer and the two counts
 abbrev pub line_of : ℕ → List ℕ → ℕ → ℕ → List ℕ

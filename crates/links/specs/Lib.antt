@@ -1,4 +1,5 @@
 pub mod Meaning
 pub mod Polls
 pub mod Processors
+pub mod Receipts
 pub mod Wires

@@ -6,3 +6,4 @@ pub mod examples;
 pub mod link;
 pub mod processor;
 pub mod wire;
+mod words;

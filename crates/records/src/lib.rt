@@ -11,3 +11,4 @@ pub mod refusal;
 pub mod refusals;
 pub mod report;
 pub mod step;
+mod texts;

@@ -1,3 +1,4 @@
+use Rattle.std.proofs.Common.{string_bytes, arith, rules}
 use Rattle.answer_text.proofs.Hexes.{hex_none, hex_more}
 use Rattle.answer_text.proofs.hex.write_hex.Goals as goal
 
@@ -6,4 +7,6 @@ loop-byte-init c = hex_none _
 
 pub loop-byte-preserved : goal.loop-byte-preserved
 loop-byte-preserved c =
-    hex_more _ _ _ c.args.bytes.now _ c.hex_digit-high.result c.hex_digit-low.result c.loop-byte-test.true c.loop-byte.invariant c.hex_digit-high.ensures.lower_case c.hex_digit-high.ensures.ascii c.hex_digit-low.ensures.lower_case c.hex_digit-low.ensures.ascii c.in_ok-write.ensures.bytes
+    let byte = c.loop-byte.byte-index in
+    hex_more (string_bytes c.args.line.now) (string_bytes c.loop-byte.line) (string_bytes c.write.new.self)
+    c.args.bytes.now byte c.loop-byte-test.true (omega (arith, c.type_inv.bytes byte)) c.loop-byte.invariant (search rules)
