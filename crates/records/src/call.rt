@@ -1,11 +1,12 @@
 // The five calls of the executive, with what each carries.
 
-#[derive(Clone, Copy)]
-pub enum Call<'a> {
+/// One call; `B` holds the bytes of a packet or of what came over a link.
+#[derive(Drop)]
+pub enum Call<B> {
     /// A telecommand packet from the console.
-    Submit { packet: &'a [u8] },
+    Submit { packet: B },
     /// Bytes received on a link.
-    Deliver { link: u32, bytes: &'a [u8] },
+    Deliver { link: u32, bytes: B },
     /// 10 ms have passed.
     Tick,
     /// One housekeeping value of a watched function.
