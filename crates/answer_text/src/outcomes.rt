@@ -91,9 +91,10 @@ fn write_fault(line: &mut String, fault: Fault) -> Result<(), AllocError>
     } = fault;
     write!(
         line,
-        "fault {} {} class {class} parameter {parameter}",
+        "fault {} {} class {} parameter {parameter}",
         kind.number(),
-        kind.name()
+        kind.name(),
+        class.number()
     )?;
     write!(line, " step {step} code {code} detail {detail}")
 }

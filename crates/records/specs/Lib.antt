@@ -1,3 +1,4 @@
 pub mod Events
 pub mod Faults
 pub mod Refusals
+pub mod Steps
