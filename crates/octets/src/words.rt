@@ -17,7 +17,7 @@ fn long(high: u16, low: u16) -> u32
 pub fn byte_at(bytes: &[u8], at: usize) -> u8
     ensures byte_or_zero { result ≡ slice_index bytes.now at }
 {
-    if at < bytes.len() { bytes[at] } else { 0 }
+    bytes.get(at).copied().unwrap_or(0)
 }
 
 pub fn word_at(bytes: &[u8], at: usize) -> u16

@@ -1,6 +1,8 @@
 -- Number, name and failure class of each fault.
 use Rattle.std.specs.Prelude.{ℕ, cond, ◌&&◌, ◌||◌, List, codes, ◌==◌, nat_le}
 use Rattle.records.specs.declared.fault.Fault.{Fault}
+use Rattle.records.specs.declared.fault.FailureClass.{FailureClass}
+use Rattle.records.specs.declared.fault.FailureClass.TheVariants.{NoClass, InvalidData, WrongState, LinkFailed}
 use Rattle.records.specs.declared.fault.FaultKind.{FaultKind}
 use Rattle.records.specs.declared.fault.FaultKind.TheVariants.{InvalidFunction, InvalidActivity, InvalidSid, InvalidParameter, InvalidWatched, UnitStopped, LinkUsed, LinkWorn, InvalidProcedure, IllegalLoad, TooManyParameters, InvalidStep, EmptyProcedure, RunningProcedure, IllegalParameterId, ExpectFailed, ProcedureStopped, Nack, Odd, NoAck}
 
@@ -48,11 +50,17 @@ fault_name Nack = codes "NACK"
 fault_name Odd = codes "ODD"
 fault_name NoAck = codes "NO ACK"
 
--- 5: a value of the telecommand is not allowed; 16: the state forbids it, or the run was ended; 17: a link is worn, or its unit did not acknowledge; 0: no fault has the number
-abbrev pub class_of : ℕ → ℕ
+abbrev pub class_number : FailureClass → ℕ
+class_number NoClass = 0
+class_number InvalidData = 5
+class_number WrongState = 16
+class_number LinkFailed = 17
+
+-- invalid data: a value of the telecommand is not allowed; wrong state: the state forbids it, or the run was ended; link failed: a link is worn, or its unit did not acknowledge; no class: no fault has the number
+abbrev pub class_of : ℕ → FailureClass
 class_of n =
-    cond (nat_le 14 n && nat_le n 18 || n == 22 || n == 24 || n == 25 || n == 28) 5
-    (cond (n == 21 || nat_le 31 n && nat_le n 33) 17 (cond (nat_le 19 n && nat_le n 30) 16 0))
+    cond (nat_le 14 n && nat_le n 18 || n == 22 || n == 24 || n == 25 || n == 28) InvalidData
+    (cond (n == 21 || nat_le 31 n && nat_le n 33) LinkFailed (cond (nat_le 19 n && nat_le n 30) WrongState NoClass))
 
 -- a fault with no step and no NACK's data; its class is that of its number
 abbrev pub fault_of : FaultKind → ℕ → Fault

@@ -1,4 +1,5 @@
 pub mod Events
 pub mod Faults
 pub mod Refusals
+pub mod Steps
 pub mod Texts

@@ -7,7 +7,7 @@ use Rattle.records.specs.declared.report.Report.{Report}
 use Rattle.records.specs.declared.report.Stage.{Stage}
 use Rattle.records.specs.declared.report.Stage.TheVariants.{Started, Done, Failed}
 use Rattle.records.specs.Events.{event_number, event_name}
-use Rattle.records.specs.Faults.{fault_number, fault_name}
+use Rattle.records.specs.Faults.{fault_number, fault_name, class_number}
 use Rattle.records.specs.Refusals.{refusal_number, refusal_name, refusal_parameter}
 
 -- a word and those after it, with single spaces between them
@@ -29,7 +29,7 @@ event_text e =
 abbrev pub fault_text : Fault → List ℕ
 fault_text f =
     spaced (codes "fault")
-    (decimal (fault_number f.kind) ∷ fault_name f.kind ∷ codes "class" ∷ decimal f.class ∷ codes "parameter" ∷ decimal f.parameter ∷ codes "step" ∷ decimal f.step ∷ codes "code" ∷ decimal f.code ∷ codes "detail" ∷ decimal f.detail ∷ [])
+    (decimal (fault_number f.kind) ∷ fault_name f.kind ∷ codes "class" ∷ decimal (class_number f.class) ∷ codes "parameter" ∷ decimal f.parameter ∷ codes "step" ∷ decimal f.step ∷ codes "code" ∷ decimal f.code ∷ codes "detail" ∷ decimal f.detail ∷ [])
 
 abbrev pub stage_text : Stage → List ℕ
 stage_text Started = codes "STARTED"

@@ -8,13 +8,7 @@ impl EventKind {
     pub fn number(self) -> u8
         ensures by_its_case { result ≡ event_number self }
     {
-        match self {
-            EventKind::Trouble => 1,
-            EventKind::Clear => 2,
-            EventKind::Nack => 3,
-            EventKind::NoAck => 4,
-            EventKind::Odd => 5,
-        }
+        self as u8
     }
 
     pub fn name(self) -> &'static str

@@ -25,11 +25,24 @@ pub enum FaultKind {
     NoAck = 33,
 }
 
+/// What kind of failure a fault is; the number of each class is its discriminant.
+#[derive(Clone, Copy)]
+pub enum FailureClass {
+    /// The number has no class.
+    NoClass = 0,
+    /// A value of the telecommand is not allowed.
+    InvalidData = 5,
+    /// The state of the executive, a link or a procedure forbids it, or the run was ended.
+    WrongState = 16,
+    /// A link is worn, or its unit did not acknowledge.
+    LinkFailed = 17,
+}
+
 /// The step is 0 outside a run; code and detail are those of a NACK, else 0.
 #[derive(Clone, Copy)]
 pub struct Fault {
     pub kind: FaultKind,
-    pub class: u8,
+    pub class: FailureClass,
     pub parameter: u32,
     pub step: u8,
     pub code: u16,

@@ -1,24 +1,27 @@
 // Number, name and failure class of each fault; every fault takes its class from the one table here.
 ghost use Rattle.std.specs.Prelude.{◌≡◌};
-ghost use Rattle.records.specs.Faults.{fault_number, fault_name, class_of, fault_of, at_step, nack_fault};
+ghost use Rattle.records.specs.Faults.{fault_number, fault_name, class_of, class_number, fault_of, at_step, nack_fault};
 
-use crate::fault::{Fault, FaultKind};
+use crate::fault::FailureClass::{InvalidData, LinkFailed, NoClass, WrongState};
+use crate::fault::{FailureClass, Fault, FaultKind};
 
-/// The failure class of each number; 0 where there is none.
-const CLASSES: [u8; 34] = [
-    0, 0, 0, 0, 0, 0, 0, 0, 0, 0, 0, 0, 0, 0, 5, 5, 5, 5, 5, 16, 16, 17, 5, 16, 5, 5, 16, 16, 5,
-    16, 16, 17, 17, 17,
-];
-
-/// The failure class of a number, 0 past the table.
-pub fn class_of(number: u8) -> u8
+/// The failure class of each number; where there is no fault there is none.
+pub fn class_of(number: u8) -> FailureClass
     ensures by_the_table { result ≡ class_of number }
 {
-    let place = number as usize;
-    if place < CLASSES.len() {
-        CLASSES[place]
-    } else {
-        0
+    match number {
+        14..=18 | 22 | 24 | 25 | 28 => InvalidData,
+        19 | 20 | 23 | 26 | 27 | 29 | 30 => WrongState,
+        21 | 31..=33 => LinkFailed,
+        _ => NoClass,
+    }
+}
+
+impl FailureClass {
+    pub fn number(self) -> u8
+        ensures by_its_case { result ≡ class_number self }
+    {
+        self as u8
     }
 }
 

@@ -7,6 +7,7 @@ pub mod event;
 pub mod events;
 pub mod fault;
 pub mod faults;
+pub mod fixed_list;
 pub mod refusal;
 pub mod refusals;
 pub mod report;

@@ -8,6 +8,7 @@ use crate::refusal::Refusal;
 pub const MOST: u32 = 1_000_000;
 
 impl Refusal {
+    // Kept a match: a refusal carries its data, so that no cast gives its number.
     pub fn number(self) -> u8
         ensures by_its_case { result ≡ refusal_number self }
     {

@@ -1,9 +1,10 @@
 // Refusals, events, faults and reports in words.
-ghost use Rattle.std.specs.Prelude.{Some};
+ghost use Rattle.std.specs.Prelude.{Some, decimal};
+ghost use Rattle.records.specs.Faults.{class_number};
 ghost use Rattle.records.specs.Texts.{refused_text, event_text, fault_text, stage_text, report_text};
 
 use crate::event::Event;
-use crate::fault::Fault;
+use crate::fault::{FailureClass, Fault};
 use crate::refusal::Refusal;
 use crate::report::{Report, Stage};
 use std::fmt;
@@ -28,6 +29,16 @@ impl fmt::Display for Event {
         let number = kind.number();
         let name = kind.name();
         write!(f, "event {number} {name} place {place} value {value}")
+    }
+}
+
+/// By its number.
+impl fmt::Display for FailureClass {
+    ghost output = { λ class. Some (decimal (class_number class)) };
+
+    fn fmt<W: fmt::Write>(&self, f: &mut fmt::Formatter<W>) -> fmt::Result {
+        let number = self.number();
+        write!(f, "{number}")
     }
 }
 

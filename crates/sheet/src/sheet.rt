@@ -24,6 +24,7 @@ fn show_fault<W: fmt::Write>(fault: &Fault, f: &mut fmt::Formatter<W>) -> fmt::R
     } = *fault;
     let number = kind.number();
     let name = kind.name();
+    let class = class.number();
     write!(
         f,
         "fault {number} {name} class {class} parameter {parameter}"

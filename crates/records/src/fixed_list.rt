@@ -1,0 +1,17 @@
+// A list in fixed memory.
+ghost use Rattle.std.specs.Prelude.{◌≡◌, take};
+
+/// The first `count` of its places, or all where it counts more.
+#[derive(Clone, Copy)]
+pub struct FixedList<T, const N: usize> {
+    pub items: [T; N],
+    pub count: usize,
+}
+
+impl<T, const N: usize> FixedList<T, N> {
+    pub fn as_slice(&self) -> &[T]
+        ensures first_places { result.now ≡ take self.now.count self.now.items }
+    {
+        self.items.get(..self.count).unwrap_or(&self.items)
+    }
+}
