@@ -31,10 +31,6 @@ abbrev pub stands_at : Run → ℕ
 stands_at r = min (r.step + 1) 255
 
 -- a link's answer at a step of a run, on its way into the report
-abbrev pub met_at : ℕ → Result (Unit {0}) LinkFault → Result (Unit {0}) (ℕ × LinkFault)
-met_at step (Ok u) = Ok u
-met_at step (Err fault) = Err (step, fault)
-
 abbrev pub in_step : ℕ → Result (Unit {0}) LinkFault → Result (Unit {0}) StepFault
 in_step step (Ok u) = Ok u
 in_step step (Err fault) = Err (Link step fault)

@@ -1,16 +1,11 @@
--- The log in the code, as the machine's log; accepting, and settling at once.
+-- Accepting, and settling at once, on a log.
 use Rattle.std.specs.Prelude.{ℕ, ◌+◌, cond, Some, None, Ok, Err, Option, Result, nat_le, nat_lt}
 use Rattle.records.specs.declared.fault.Fault.{Fault}
 use Rattle.records.specs.declared.refusal.Refusal.{Refusal}
 use Rattle.records.specs.declared.refusal.Refusal.TheVariants.{Worn, Full}
 use Rattle.records.specs.declared.report.Stage.TheVariants.{Done, Failed}
-use Rattle.stores.specs.Stores.{events, reports}
 use Rattle.machine.specs.Desks as machine
-use Rattle.desks.specs.declared.log.Log.{Log}
 use Rattle.desks.specs.declared.ticket.Ticket.{Ticket}
-
-abbrev pub log_of : Log → machine.Log
-log_of l = record { events = events l.events; reports = reports l.reports; accepted = l.accepted; raised = l.raised }
 
 -- the two refusals of a good packet, with so many places free; else the next number
 abbrev pub judged : machine.Log → ℕ → Result ℕ Refusal

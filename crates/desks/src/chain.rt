@@ -1,6 +1,6 @@
 // How a fault travels: from a link to the step of a run, and from there into a report.
 ghost use Rattle.std.specs.Prelude.{◌≡◌};
-ghost use Rattle.desks.specs.Chains.{link_fault, step_fault, of_step, stands_at, met_at, in_step, in_report};
+ghost use Rattle.desks.specs.Chains.{link_fault, step_fault, of_step, stands_at, in_step, in_report};
 
 use machine::state::Run;
 use records::fault::{Fault, FaultKind};
@@ -70,27 +70,16 @@ pub fn standing(run: Run) -> u8
     run.step.saturating_add(1).min(255) as u8
 }
 
-fn met_at(step: u8, answer: Result<(), LinkFault>) -> Result<(), (u8, LinkFault)>
-    ensures with_its_step { result ≡ met_at step answer }
-{
-    match answer {
-        Ok(()) => Ok(()),
-        Err(fault) => Err((step, fault)),
-    }
-}
-
 /// A link's answer, as the step that asked for it has it.
 pub fn in_step(step: u8, answer: Result<(), LinkFault>) -> Result<(), StepFault>
     ensures fault_with_its_step { result ≡ in_step step answer }
 {
-    met_at(step, answer)?;
-    Ok(())
+    Ok(answer.map_err(|fault| (step, fault))?)
 }
 
 /// A link's answer, as the report of a run has it: code, detail and step kept.
 pub fn in_report(step: u8, answer: Result<(), LinkFault>) -> Result<(), Fault>
     ensures fault_kept_whole { result ≡ in_report step answer }
 {
-    in_step(step, answer)?;
-    Ok(())
+    Ok(in_step(step, answer)?)
 }

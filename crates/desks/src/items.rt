@@ -13,6 +13,7 @@ pub fn item<T: Copy>(items: &[T], place: usize, past: T) -> T
 }
 
 /// Writes at a place; past the end nothing.
+// Kept: what the library's `get_mut` lends of a slice leaves no word of the slice's items afterwards.
 pub fn set_item<T: Copy>(items: &mut [T], place: usize, new: T)
     ensures only_there { items.new ≡ slice_set items.old place new }
 {

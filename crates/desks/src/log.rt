@@ -1,6 +1,6 @@
 // Waiting events and reports, and how many were accepted and raised.
-use stores::event_store::EventStore;
-use stores::report_store::ReportStore;
+use std::marker::Model;
+use stores::{EventStore, ReportStore};
 
 pub mod calls;
 
@@ -11,4 +11,13 @@ pub struct Log {
     reports: ReportStore,
     accepted: u32,
     raised: u32,
+}
+
+// Clauses see the machine's own log.
+impl Model for Log {
+    ghost use Rattle.machine.specs.Desks as machine;
+
+    ghost Value = { machine.Log };
+
+    ghost view = { λ l. record { events = l.events; reports = l.reports; accepted = l.accepted; raised = l.raised } };
 }

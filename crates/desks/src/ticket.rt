@@ -2,7 +2,7 @@
 ghost use Rattle.std.specs.Prelude.{◌≡◌};
 ghost use Rattle.machine.specs.Desks.{filed};
 ghost use Rattle.records.specs.declared.report.Stage.TheVariants.{Started};
-ghost use Rattle.desks.specs.Logs.{log_of, settled_in};
+ghost use Rattle.desks.specs.Logs.{settled_in};
 
 use crate::log::Log;
 use records::fault::Fault;
@@ -27,7 +27,7 @@ impl Ticket {
 
     /// Its final report, with nothing sent.
     pub fn settle(self, outcome: Result<(), Fault>, log: &mut Log)
-        ensures one_final_report { log_of log.new ≡ settled_in self.number outcome (log_of log.old) }
+        ensures one_final_report { log.new ≡ settled_in self.number outcome log.old }
     {
         let Ticket { number } = self;
         match outcome {
@@ -38,7 +38,7 @@ impl Ticket {
 
     /// STARTED now, its final report later.
     pub fn park(self, log: &mut Log)
-        ensures started { log_of log.new ≡ filed (log_of log.old) self.number Started }
+        ensures started { log.new ≡ filed log.old self.number Started }
     {
         let Ticket { number } = self;
         log.file(number, Stage::Started);

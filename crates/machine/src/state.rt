@@ -1,10 +1,10 @@
 // What the executive holds beside its links, its watch and its stores.
 
-#[derive(Clone, Copy)]
+#[derive(Clone, Copy, PartialEq, Eq)]
 pub enum LinkStatus {
-    Off,
-    On,
-    Stopped,
+    Off = 0,
+    On = 1,
+    Stopped = 2,
 }
 
 /// For whom a link took the command that it holds.

@@ -9,10 +9,6 @@ impl LinkStatus {
     pub fn number(self) -> u8
         ensures by_its_case { result ≡ status_number self }
     {
-        match self {
-            LinkStatus::Off => 0,
-            LinkStatus::On => 1,
-            LinkStatus::Stopped => 2,
-        }
+        self as u8
     }
 }

@@ -3,7 +3,7 @@ ghost use Rattle.std.specs.Prelude.{◌≡◌, ◌≤◌, length};
 ghost use Rattle.machine.specs.Desks.{empty_log, filed, raised_in, lost_in};
 ghost use Rattle.machine.specs.Outcomes.{handing_of};
 ghost use Rattle.machine.specs.Parts.{collected_from, handed};
-ghost use Rattle.desks.specs.Logs.{log_of, judged, issued, after_judged};
+ghost use Rattle.desks.specs.Logs.{judged, issued, after_judged};
 
 use super::Log;
 use crate::ticket::Ticket;
@@ -12,12 +12,11 @@ use records::event::Event;
 use records::refusal::Refusal;
 use records::refusals::MOST;
 use records::report::{Report, Stage};
-use stores::event_store::EventStore;
-use stores::report_store::ReportStore;
+use stores::{EventStore, ReportStore};
 
 impl Log {
     pub fn new() -> Log
-        ensures nothing_waits_or_was_counted { log_of result ≡ empty_log }
+        ensures nothing_waits_or_was_counted { result ≡ empty_log }
     {
         Log {
             events: EventStore::new(),
@@ -29,8 +28,8 @@ impl Log {
 
     /// Judges the two refusals of a good packet; if none applies, one more is accepted.
     pub fn accept(&mut self, free: u32) -> Result<Ticket, Refusal>
-        ensures answer { result ≡ issued (judged (log_of self.old) free) }
-        ensures after { log_of self.new ≡ after_judged (judged (log_of self.old) free) (log_of self.old) }
+        ensures answer { result ≡ issued (judged self.old free) }
+        ensures after { self.new ≡ after_judged (judged self.old free) self.old }
     {
         if self.accepted >= MOST {
             return Err(Refusal::Worn);
@@ -44,16 +43,16 @@ impl Log {
 
     /// Files a report behind the others.
     pub fn file(&mut self, number: u32, stage: Stage)
-        ensures behind_the_others { log_of self.new ≡ filed (log_of self.old) number stage }
+        ensures behind_the_others { self.new ≡ filed self.old number stage }
     {
         self.reports.put(Report { number, stage });
     }
 
     /// Raises an event: 1 if it is lost, else 0.
     pub fn raise(&mut self, event: Event) -> u32
-        ensures lost { result ≡ lost_in (log_of self.old) }
+        ensures lost { result ≡ lost_in self.old }
         ensures at_most_one { result ≤ 1 }
-        ensures after { log_of self.new ≡ raised_in (log_of self.old) event }
+        ensures after { self.new ≡ raised_in self.old event }
     {
         self.raised = self.raised.saturating_add(1).min(MOST);
         if self.events.put(event) { 0 } else { 1 }
@@ -61,8 +60,8 @@ impl Log {
 
     /// Hands out the oldest event, else the oldest report.
     pub fn take(&mut self) -> Handed
-        ensures events_first { handing_of result ≡ handed (log_of self.old).events (log_of self.old).reports }
-        ensures after { log_of self.new ≡ collected_from (log_of self.old).events (log_of self.old).reports (log_of self.old) }
+        ensures events_first { handing_of result ≡ handed self.old.events self.old.reports }
+        ensures after { self.new ≡ collected_from self.old.events self.old.reports self.old }
     {
         if let Some(event) = self.events.take() {
             return Handed::Event { event };
@@ -74,7 +73,7 @@ impl Log {
     }
 
     pub fn waiting_reports(&self) -> u32
-        ensures all_that_wait { result ≡ length (log_of self.now).reports }
+        ensures all_that_wait { result ≡ length self.now.reports }
         ensures at_most_400 { result ≤ 400 }
     {
         self.reports.len() as u32
@@ -82,7 +81,7 @@ impl Log {
 
     /// Events raised in all, up to a million.
     pub fn raised(&self) -> u32
-        ensures as_counted { result ≡ (log_of self.now).raised }
+        ensures as_counted { result ≡ self.now.raised }
     {
         self.raised
     }
