@@ -1,3 +1,4 @@
+pub mod Intakes
 pub mod Meaning
 pub mod Polls
 pub mod Processors

@@ -22,7 +22,7 @@ pub record ProcessorState : Type 0 where
   pub polls : ℕ
 
 abbrev pub processor_state : Processor → ProcessorState
-processor_state p = record { delay = p.delay; taken = p.taken; held = p.held; polls = p.polls }
+processor_state p = record { delay = p.delay; taken = p.intake.taken; held = p.intake.held; polls = p.polls }
 
 -- idle, with so many taken
 abbrev pub processor_idle : ProcessorState → ProcessorState

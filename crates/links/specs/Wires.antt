@@ -30,7 +30,7 @@ reply_in bytes =
 
 -- the state of a wire is its meaning
 abbrev pub wire_state : Wire → LinkMeaning
-wire_state w = record { taken = w.taken; held = w.held; due = w.due }
+wire_state w = record { taken = w.intake.taken; held = w.intake.held; due = w.due }
 
 -- a command is taken with nothing due
 abbrev pub wire_offered : LinkMeaning → Command → LinkMeaning

@@ -1,4 +1,6 @@
 // Links of both kinds worked through code that knows only the trait.
+#![tactic(auto, unfolding(crate::specs::Polls::polled_times))]
+
 ghost use Rattle.std.specs.Prelude.{◌≡◌, Some, None};
 ghost use Rattle.records.specs.declared.command.Reply.TheVariants.{Ack, Nack};
 ghost use Rattle.links.specs.Polls.{polled_times};

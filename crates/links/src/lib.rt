@@ -3,6 +3,7 @@
 
 pub mod answers;
 pub mod examples;
+pub mod intake;
 pub mod link;
 pub mod processor;
 pub mod wire;

@@ -14,12 +14,10 @@ pub trait Link {
 
     ghost state: { Self → kind.State };
 
+    ghost WAIT_LIMIT: { ℕ };
+
     /// After how many ticks without a reply a command is abandoned: 1 to 50.
     const WAIT_LIMIT: u32;
-
-    /// The wait limit, where a contract can speak of it.
-    fn longest_wait() -> u32
-        ensures the_kinds_limit { result ≡ kind.limit };
 
     fn offer(&mut self, command: Command) -> Result<(), OfferRefusal>
         ensures answer { result ≡ offer_answer (kind.means (state self.old)) }
@@ -44,6 +42,8 @@ pub trait Link {
 
     fn message_byte(&self, at: usize) -> u8
         ensures byte_or_zero { result ≡ slice_index (kind.message (state self.now)) at };
+
+    ghost the_kinds_limit: { WAIT_LIMIT ≡ kind.limit };
 
     ghost lawful: { Lawful kind };
 

@@ -1,7 +1,5 @@
 // The processor: a link that stands in for a signal processor and answers by itself.
-ghost use Rattle.std.specs.Prelude.{◌≤◌};
-
-use records::command::Command;
+use crate::intake::Intake;
 
 pub mod calls;
 
@@ -9,8 +7,6 @@ pub mod calls;
 #[derive(Clone, Copy)]
 pub struct Processor {
     delay: u8,
-    taken: u32,
-    held: Option<Command>,
+    intake: Intake,
     polls: u8,
-    ghost count: { taken ≤ 1000000 },
 }

@@ -1,15 +1,14 @@
 // The wire: a link whose unit talks in bytes.
-ghost use Rattle.std.specs.Prelude.{◌≡◌, ◌≤◌, None};
+ghost use Rattle.std.specs.Prelude.{◌≡◌, None};
 
-use records::command::{Command, Reply};
+use crate::intake::Intake;
+use records::command::Reply;
 
 pub mod calls;
 
 #[derive(Clone, Copy)]
 pub struct Wire {
-    taken: u32,
-    held: Option<Command>,
+    intake: Intake,
     due: Option<Reply>,
-    ghost count: { taken ≤ 1000000 },
-    ghost idle: { held ≡ None → due ≡ None },
+    ghost idle: { intake.held ≡ None → due ≡ None },
 }

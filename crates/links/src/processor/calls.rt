@@ -1,10 +1,11 @@
 // What a processor does.
-ghost use Rattle.std.specs.Prelude.{◌≡◌, None};
+ghost use Rattle.std.specs.Prelude.{◌≡◌, refl, None};
 ghost use Rattle.links.specs.Processors.{reply_to, processor_state, processor_kind};
 ghost use Rattle.std.proofs.Common.{rules, arith};
 
 use crate::answers::{OfferRefusal, Receipt};
-use crate::link::{Link, MOST_TAKEN};
+use crate::intake::Intake;
+use crate::link::Link;
 use crate::processor::Processor;
 use records::command::{Command, Reply};
 
@@ -13,7 +14,7 @@ fn reply_to(command: Command) -> Reply
     ensures first_wrong_part { result ≡ reply_to command }
 {
     let Command { id, sid, parameter } = command;
-    if id < 0x07 || id > 0x0B {
+    if !(0x07..=0x0B).contains(&id) {
         return Reply::Nack {
             code: 0x77,
             detail: u32::from(id),
@@ -40,8 +41,7 @@ impl Processor {
     {
         Processor {
             delay,
-            taken: 0,
-            held: None,
+            intake: Intake::new(),
             polls: 0,
         }
     }
@@ -52,39 +52,29 @@ impl Link for Processor {
 
     ghost state = { processor_state };
 
+    ghost WAIT_LIMIT = { 20 };
+
     const WAIT_LIMIT: u32 = 20;
+
+    ghost the_kinds_limit = { refl };
 
     ghost lawful = { first_of (Prim.search rules, Prim.grind (arith, Self.row.coded.inj)) };
 
     ghost ok = { first_of (Prim.search rules, Prim.grind (arith, Self.row.coded.inj)) };
 
-    fn longest_wait() -> u32 {
-        Self::WAIT_LIMIT
-    }
-
     fn offer(&mut self, command: Command) -> Result<(), OfferRefusal> {
-        if self.held.is_some() {
-            return Err(OfferRefusal::Busy);
-        }
-        if self.taken >= MOST_TAKEN {
-            return Err(OfferRefusal::Spent);
-        }
-        self.taken += 1;
-        self.held = Some(command);
+        self.intake.offer(command)?;
         self.polls = 0;
         Ok(())
     }
 
     fn poll(&mut self) -> Option<Reply> {
-        let Some(command) = self.held else {
-            return None;
-        };
+        let command = self.intake.held()?;
         if self.polls < self.delay {
             self.polls += 1;
             return None;
         }
-        self.held = None;
-        self.polls = 0;
+        self.abandon();
         Some(reply_to(command))
     }
 
@@ -93,14 +83,15 @@ impl Link for Processor {
     }
 
     fn abandon(&mut self) {
-        self.held = None;
+        self.intake.release();
         self.polls = 0;
     }
 
     fn is_held(&self) -> bool {
-        self.held.is_some()
+        self.intake.is_held()
     }
 
+    // Kept: as the trait's own bodies these two would have to be right for the wire too.
     fn message_length(&self) -> usize {
         0
     }

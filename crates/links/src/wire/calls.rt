@@ -1,11 +1,12 @@
 // What a wire does.
-ghost use Rattle.std.specs.Prelude.{◌≡◌, slice_index};
+ghost use Rattle.std.specs.Prelude.{◌≡◌, refl, slice_index};
 ghost use Rattle.links.specs.Meaning.{idle};
 ghost use Rattle.links.specs.Wires.{command_bytes, reply_in, wire_state, wire_kind};
 ghost use Rattle.std.proofs.Common.{rules, arith};
 
 use crate::answers::{OfferRefusal, Receipt};
-use crate::link::{Link, MOST_TAKEN};
+use crate::intake::Intake;
+use crate::link::Link;
 use crate::wire::Wire;
 use octets::words::{byte_at, long_at, word_at};
 use records::command::{Command, Reply};
@@ -14,6 +15,7 @@ use records::command::{Command, Reply};
 fn command_bytes(command: Command) -> [u8; 12]
     ensures field_after_field { result ≡ command_bytes command }
 {
+    // Kept: without the heap arrays join only by copies to places counted by hand.
     let id = command.id.to_be_bytes();
     let sid = command.sid.to_be_bytes();
     let parameter = command.parameter.to_be_bytes();
@@ -62,8 +64,7 @@ impl Wire {
         ensures idle_with_nothing_taken { wire_state result ≡ idle 0 }
     {
         Wire {
-            taken: 0,
-            held: None,
+            intake: Intake::new(),
             due: None,
         }
     }
@@ -74,39 +75,28 @@ impl Link for Wire {
 
     ghost state = { wire_state };
 
+    ghost WAIT_LIMIT = { 20 };
+
     const WAIT_LIMIT: u32 = 20;
+
+    ghost the_kinds_limit = { refl };
 
     ghost lawful = { first_of (Prim.search rules, Prim.grind (arith, Self.row.coded.inj)) };
 
     ghost ok = { first_of (Prim.search rules, Prim.grind (arith, Self.row.coded.inj)) };
 
-    fn longest_wait() -> u32 {
-        Self::WAIT_LIMIT
-    }
-
     fn offer(&mut self, command: Command) -> Result<(), OfferRefusal> {
-        if self.held.is_some() {
-            return Err(OfferRefusal::Busy);
-        }
-        if self.taken >= MOST_TAKEN {
-            return Err(OfferRefusal::Spent);
-        }
-        self.taken += 1;
-        self.held = Some(command);
-        Ok(())
+        self.intake.offer(command)
     }
 
     fn poll(&mut self) -> Option<Reply> {
-        let due = self.due;
-        if due.is_some() {
-            self.held = None;
-            self.due = None;
-        }
-        due
+        let reply = self.due?;
+        self.abandon();
+        Some(reply)
     }
 
     fn receive(&mut self, bytes: &[u8]) -> Receipt {
-        if self.held.is_none() || self.due.is_some() {
+        if !self.intake.is_held() || self.due.is_some() {
             return Receipt::Ignored;
         }
         self.due = Some(reply_in(bytes));
@@ -114,20 +104,20 @@ impl Link for Wire {
     }
 
     fn abandon(&mut self) {
-        self.held = None;
+        self.intake.release();
         self.due = None;
     }
 
     fn is_held(&self) -> bool {
-        self.held.is_some()
+        self.intake.is_held()
     }
 
     fn message_length(&self) -> usize {
-        if self.held.is_some() { 12 } else { 0 }
+        if self.intake.is_held() { 12 } else { 0 }
     }
 
     fn message_byte(&self, at: usize) -> u8 {
-        match self.held {
+        match self.intake.held() {
             Some(command) => command_byte(command, at),
             None => 0,
         }
