@@ -1,6 +1,6 @@
--- Reading a text in hexadecimal from its start: what each step of the loop keeps, and what its ends give.
-use Rattle.std.proofs.Common.{◌≡◌, ℕ, ◌+◌, ◌<◌, ◌≤◌, true, false, List, [], ◌∷◌, ◌++◌, length, get_or, drop, Some, None, Option, sym, refl, ap, ◌∙◌, append_assoc, add_assoc, arith}
-use Rattle.std.proofs.lemmas.List.{append-nil, drop_more, drop_all}
+-- Reading a text in hexadecimal from its start: what each step keeps, and what its ends give.
+use Rattle.std.proofs.Common.{◌≡◌, ℕ, ◌-◌, ◌<◌, ◌≤◌, true, false, List, [], ◌∷◌, ◌++◌, length, get_or, take, drop, Some, None, Option, sym, refl, ap, ◌∙◌, append_assoc, length-drop, arith}
+use Rattle.std.proofs.lemmas.List.{append-nil, take_all}
 use Rattle.std.proofs.lemmas.Bool.{cond-true, cond-false}
 use Rattle.bench_text.specs.Numbers.{hex_digit, hex_pair, before, bytes_of}
 use Rattle.bench_text.specs.Words.{is_blank}
@@ -15,53 +15,58 @@ ahead_push front byte None = refl
 ahead_push front byte (Some run) = ap Some (sym (append_assoc front (byte ∷ []) run))
 
 -- the bytes read so far, with what is left of the text, give all
-abbrev pub ReadTo : List ℕ → ℕ → List ℕ → Type 0
-ReadTo text at front = bytes_of text ≡ ahead front (bytes_of (drop at text))
+abbrev pub ReadTo : List ℕ → List ℕ → List ℕ → Type 0
+ReadTo text rest front = bytes_of text ≡ ahead front (bytes_of rest)
 
-blank_first : (byte : ℕ) (text : List ℕ) → is_blank byte ≡ true → bytes_of (byte ∷ text) ≡ bytes_of text
+-- what stands behind the first bytes
+abbrev behind : ℕ → List ℕ → List ℕ
+behind k text = take (length text - k) (drop k text)
+
+behind_is : (k : ℕ) (text : List ℕ) → behind k text ≡ drop k text
+behind_is k text = take_all (length text - k) (drop k text) (omega (arith, length-drop k text))
+
+blank_first : (rest : List ℕ) → 1 ≤ length rest → is_blank (get_or rest 0 0) ≡ true → bytes_of rest ≡ bytes_of (drop 1 rest)
 unfolding bytes_of
-blank_first byte [] blank = cond-true (is_blank byte) _ _ blank
-blank_first byte (next ∷ text) blank = cond-true (is_blank byte) _ _ blank
+blank_first [] some blank = absurd (omega arith)
+blank_first (byte ∷ []) some blank = cond-true (is_blank byte) _ _ blank
+blank_first (byte ∷ next ∷ more) some blank = cond-true (is_blank byte) _ _ blank
 
-one_left : (byte : ℕ) → is_blank byte ≡ false → bytes_of (byte ∷ []) ≡ None
+one_left : (rest : List ℕ) → 1 ≤ length rest → length rest < 2 → is_blank (get_or rest 0 0) ≡ false → bytes_of rest ≡ None
 unfolding bytes_of
-one_left byte digit = cond-false (is_blank byte) _ _ digit
+one_left [] some few digit = absurd (omega arith)
+one_left (byte ∷ []) some few digit = cond-false (is_blank byte) _ _ digit
+one_left (byte ∷ next ∷ more) some few digit = absurd (omega arith)
 
-two_left : (high low : ℕ) (text : List ℕ) → is_blank high ≡ false → bytes_of (high ∷ low ∷ text) ≡ before (hex_pair (hex_digit high) (hex_digit low)) (bytes_of text)
+two_left : (rest : List ℕ) → 2 ≤ length rest → is_blank (get_or rest 0 0) ≡ false → bytes_of rest ≡ before (hex_pair (hex_digit (get_or rest 0 0)) (hex_digit (get_or rest 1 0))) (bytes_of (drop 2 rest))
 unfolding bytes_of
-two_left high low text digit = cond-false (is_blank high) _ _ digit
+two_left [] some digit = absurd (omega arith)
+two_left (byte ∷ []) some digit = absurd (omega arith)
+two_left (high ∷ low ∷ more) some digit = cond-false (is_blank high) _ _ digit
 
-none_left : bytes_of [] ≡ Some []
+none_left : (rest : List ℕ) → length rest < 1 → bytes_of rest ≡ Some []
 unfolding bytes_of
-none_left = refl
+none_left [] none = refl
+none_left (byte ∷ more) none = absurd (omega arith)
 
-module _ (text : List ℕ) (at : ℕ) (front : List ℕ) where
-  -- what all the text gives, by what is left of it
-  by_rest : (rest : Option (List ℕ)) → ReadTo text at front → bytes_of (drop at text) ≡ rest → bytes_of text ≡ ahead front rest
-  by_rest rest read is = read ∙ ap (ahead front) is
+module _ (text rest front : List ℕ) (read : ReadTo text rest front) where
+  pub past_blank : 1 ≤ length rest → true ≡ is_blank (get_or rest 0 0) → ReadTo text (behind 1 rest) front
+  past_blank some blank =
+      read ∙ ap (ahead front) (blank_first rest some (sym blank) ∙ ap bytes_of (sym (behind_is 1 rest)))
 
-  pub past_blank : ReadTo text at front → at < length text → true ≡ is_blank (get_or text at 0) → ReadTo text (at + 1) front
-  past_blank read more blank =
-      by_rest _ read (ap bytes_of (drop_more text at 0 more) ∙ blank_first _ _ (sym blank))
+  pub at_last : 1 ≤ length rest → length rest < 2 → false ≡ is_blank (get_or rest 0 0) → None ≡ bytes_of text
+  at_last some few digit = sym (read ∙ ap (ahead front) (one_left rest some few (sym digit)))
 
-  pub at_last : ReadTo text at front → at < length text → length text ≤ at + 1 → false ≡ is_blank (get_or text at 0) → None ≡ bytes_of text
-  at_last read more last digit =
-      let rest = drop_more text at 0 more ∙ ap (λ rest. get_or text at 0 ∷ rest) (drop_all (at + 1) text last) in
-      sym (by_rest None read (ap bytes_of rest ∙ one_left _ (sym digit)))
+  module _ (some : 2 ≤ length rest) (digit : false ≡ is_blank (get_or rest 0 0)) where
+    by_pair : (pair : Option ℕ) → pair ≡ hex_pair (hex_digit (get_or rest 0 0)) (hex_digit (get_or rest 1 0)) → bytes_of rest ≡ before pair (bytes_of (drop 2 rest))
+    by_pair pair is = two_left rest some (sym digit) ∙ ap (λ p. before p (bytes_of (drop 2 rest))) (sym is)
 
-  at_pair : (pair : Option ℕ) → at + 1 < length text → false ≡ is_blank (get_or text at 0) → pair ≡ hex_pair (hex_digit (get_or text at 0)) (hex_digit (get_or text (at + 1) 0)) → bytes_of (drop at text) ≡ before pair (bytes_of (drop (at + 2) text))
-  at_pair pair more digit is =
-      let high = drop_more text at 0 (omega arith) in
-      let low = drop_more text (at + 1) 0 more ∙ ap (λ n. get_or text (at + 1) 0 ∷ drop n text) (add_assoc at 1 1) in
-      ap bytes_of (high ∙ ap (λ rest. get_or text at 0 ∷ rest) low) ∙ two_left _ _ _ (sym digit) ∙ ap (λ p. before p (bytes_of (drop (at + 2) text))) (sym is)
+    pub at_no_pair : None ≡ hex_pair (hex_digit (get_or rest 0 0)) (hex_digit (get_or rest 1 0)) → None ≡ bytes_of text
+    at_no_pair is = sym (read ∙ ap (ahead front) (by_pair None is))
 
-  pub at_no_pair : ReadTo text at front → at + 1 < length text → false ≡ is_blank (get_or text at 0) → None ≡ hex_pair (hex_digit (get_or text at 0)) (hex_digit (get_or text (at + 1) 0)) → None ≡ bytes_of text
-  at_no_pair read more digit is = sym (by_rest None read (at_pair None more digit is))
+    pub past_pair : (byte : ℕ) (run : List ℕ) → Some byte ≡ hex_pair (hex_digit (get_or rest 0 0)) (hex_digit (get_or rest 1 0)) → run ≡ front ++ byte ∷ [] → ReadTo text (behind 2 rest) run
+    past_pair byte run is pushed =
+        read ∙ ap (ahead front) (by_pair (Some byte) is ∙ ap (λ l. before (Some byte) (bytes_of l)) (sym (behind_is 2 rest)))
+        ∙ ahead_push front byte _ ∙ ap (λ r. ahead r (bytes_of (behind 2 rest))) (sym pushed)
 
-  pub past_pair : (byte : ℕ) (run : List ℕ) → ReadTo text at front → at + 1 < length text → false ≡ is_blank (get_or text at 0) → Some byte ≡ hex_pair (hex_digit (get_or text at 0)) (hex_digit (get_or text (at + 1) 0)) → run ≡ front ++ byte ∷ [] → ReadTo text (at + 2) run
-  past_pair byte run read more digit is pushed =
-      by_rest _ read (at_pair (Some byte) more digit is) ∙ ahead_push front byte _ ∙ ap (λ r. ahead r (bytes_of (drop (at + 2) text))) (sym pushed)
-
-  pub at_end : ReadTo text at front → length text ≤ at → Some front ≡ bytes_of text
-  at_end read all =
-      sym (by_rest _ read (ap bytes_of (drop_all at text all) ∙ none_left) ∙ ap Some (append-nil front))
+  pub at_end : length rest < 1 → Some front ≡ bytes_of text
+  at_end none = sym (read ∙ ap (ahead front) (none_left rest none) ∙ ap Some (append-nil front))

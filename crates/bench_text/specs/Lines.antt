@@ -1,8 +1,10 @@
 -- What a line of text says.
-use Rattle.std.specs.Prelude.{ℕ, Bool, true, cond, List, [], ◌∷◌, length, Some, None, vec_items, codes, Option, ◌==◌}
+use Rattle.std.specs.Prelude.{ℕ, Bool, true, cond, List, [], ◌∷◌, length, Some, None, vec_items, codes, Option, Vec, ◌==◌}
 use Rattle.std.specs.Str.{bytes_eq}
 use Rattle.bench_text.specs.declared.line.Line.{Line}
-use Rattle.bench_text.specs.declared.line.Line.TheVariants.{Skipped, Unreadable, Submit, Deliver, Tick, Sample, Collect, Message}
+use Rattle.bench_text.specs.declared.line.Line.TheVariants as line
+use Rattle.records.specs.declared.call.Call.{Call}
+use Rattle.records.specs.declared.call.Call.TheVariants.{Submit, Deliver, Tick, Sample, Collect}
 use Rattle.bench_text.specs.Numbers.{number_of, bytes_of}
 use Rattle.bench_text.specs.Words.{first_word, after_word}
 
@@ -17,15 +19,18 @@ pub data Said : Type 0 where
   collect : Said
   message : ℕ → Said
 
+abbrev pub asked_by : {Z : Type 0} → Call (Vec ℕ Z) → Said
+asked_by (Submit packet) = submit (vec_items packet)
+asked_by (Deliver link bytes) = deliver link (vec_items bytes)
+asked_by Tick = tick
+asked_by (Sample function value) = sample function value
+asked_by Collect = collect
+
 abbrev pub said_by : Line → Said
-said_by Skipped = skipped
-said_by Unreadable = unreadable
-said_by (Submit packet) = submit (vec_items packet)
-said_by (Deliver link bytes) = deliver link (vec_items bytes)
-said_by Tick = tick
-said_by (Sample function value) = sample function value
-said_by Collect = collect
-said_by (Message link) = message link
+said_by line.Skipped = skipped
+said_by line.Unreadable = unreadable
+said_by (line.Call call) = asked_by call
+said_by (line.Message link) = message link
 
 -- nothing that counts: no word, or a first word that begins with `#`
 abbrev pub is_skipped : List ℕ → Bool

@@ -1,4 +1,5 @@
 // What one line of a call list says.
+use records::call::Call;
 
 #[derive(Drop)]
 pub enum Line {
@@ -6,11 +7,7 @@ pub enum Line {
     Skipped,
     /// Counted, and no call: it has none of the forms below.
     Unreadable,
-    Submit { packet: Vec<u8> },
-    Deliver { link: u32, bytes: Vec<u8> },
-    Tick,
-    Sample { function: u32, value: u32 },
-    Collect,
+    Call(Call<Vec<u8>>),
     /// The question what a link would send now.
     Message { link: u32 },
 }

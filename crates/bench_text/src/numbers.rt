@@ -9,17 +9,10 @@ use std::alloc::{AllocError, Global};
 fn digit_step(value: Option<u32>, byte: u8) -> Option<u32>
     ensures one_more_digit { result ≡ digit_step value byte }
 {
-    let Some(value) = value else {
-        return None;
-    };
-    if byte < b'0' || byte > b'9' {
+    if !byte.is_ascii_digit() {
         return None;
     }
-    let next = u64::from(value) * 10 + u64::from(byte - b'0');
-    if next > 4_294_967_295 {
-        return None;
-    }
-    Some(next as u32)
+    value?.checked_mul(10)?.checked_add(u32::from(byte - b'0'))
 }
 
 /// A word of decimal digits; leading zeros are fine, signs are not.
@@ -29,11 +22,8 @@ pub fn number(word: &[u8]) -> Option<u32>
     if word.is_empty() {
         return None;
     }
-    let mut value = Some(0);
-    for byte in word {
-        value = digit_step(value, *byte);
-    }
-    value
+    word.iter()
+        .fold(Some(0), |value, byte| digit_step(value, *byte))
 }
 
 /// A hexadecimal digit of either case.
@@ -53,10 +43,7 @@ fn hex_digit(byte: u8) -> Option<u8>
 fn hex_pair(high: u8, low: u8) -> Option<u8>
     ensures high_half_first { result ≡ hex_pair (hex_digit high) (hex_digit low) }
 {
-    match (hex_digit(high), hex_digit(low)) {
-        (Some(high), Some(low)) => Some(high * 16 + low),
-        _ => None,
-    }
+    Some(hex_digit(high)? * 16 + hex_digit(low)?)
 }
 
 /// Words of hexadecimal digits, each of an even number, as one run of bytes.
@@ -64,20 +51,19 @@ pub fn bytes(heap: Global, text: &[u8]) -> Result<Option<Vec<u8>>, AllocError>
     ensures pairs_of_digits { IfOk result (λ v. run_of v ≡ bytes_of text.now) }
 {
     let mut run = Vec::new(heap);
-    let mut at = 0;
-    while at < text.len() {
-        if is_blank(text[at]) {
-            at += 1;
-            continue;
+    let mut rest = text;
+    'pairs: loop {
+        match rest {
+            [] => return Ok(Some(run)),
+            [blank, more @ ..] if is_blank(*blank) => rest = more,
+            [_] => return Ok(None),
+            [high, low, more @ ..] => {
+                let Some(byte) = hex_pair(*high, *low) else {
+                    return Ok(None);
+                };
+                run.push(byte)?;
+                rest = more;
+            }
         }
-        if at + 1 >= text.len() {
-            return Ok(None);
-        }
-        let Some(byte) = hex_pair(text[at], text[at + 1]) else {
-            return Ok(None);
-        };
-        run.push(byte)?;
-        at += 2;
     }
-    Ok(Some(run))
 }

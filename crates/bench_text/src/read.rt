@@ -7,6 +7,7 @@ ghost use Rattle.bench_text.specs.Words.{first_word, after_word};
 use crate::line::Line;
 use crate::numbers::{bytes, number};
 use crate::words::{is_word, split_word};
+use records::call::Call;
 use std::alloc::{AllocError, Global};
 
 fn is_skipped(word: &[u8]) -> bool
@@ -29,7 +30,7 @@ fn read_submit(heap: Global, rest: &[u8]) -> Result<Line, AllocError>
     ensures bytes_follow { IfOk result (λ line. said_by line ≡ submitted (bytes_of rest.now)) }
 {
     match bytes(heap, rest)? {
-        Some(packet) => Ok(Line::Submit { packet }),
+        Some(packet) => Ok(Line::Call(Call::Submit { packet })),
         None => Ok(Line::Unreadable),
     }
 }
@@ -42,7 +43,7 @@ fn read_deliver(heap: Global, rest: &[u8]) -> Result<Line, AllocError>
         return Ok(Line::Unreadable);
     };
     match bytes(heap, rest)? {
-        Some(bytes) => Ok(Line::Deliver { link, bytes }),
+        Some(bytes) => Ok(Line::Call(Call::Deliver { link, bytes })),
         None => Ok(Line::Unreadable),
     }
 }
@@ -56,7 +57,7 @@ fn read_sample(rest: &[u8]) -> Line
         return Line::Unreadable;
     }
     match (number(function), number(value)) {
-        (Some(function), Some(value)) => Line::Sample { function, value },
+        (Some(function), Some(value)) => Line::Call(Call::Sample { function, value }),
         _ => Line::Unreadable,
     }
 }
@@ -92,7 +93,7 @@ pub fn read_line(heap: Global, text: &[u8]) -> Result<Line, AllocError>
         return Ok(if has_word(rest) {
             Line::Unreadable
         } else {
-            Line::Tick
+            Line::Call(Call::Tick)
         });
     }
     if is_word(word, b"sample") {
@@ -102,7 +103,7 @@ pub fn read_line(heap: Global, text: &[u8]) -> Result<Line, AllocError>
         return Ok(if has_word(rest) {
             Line::Unreadable
         } else {
-            Line::Collect
+            Line::Call(Call::Collect)
         });
     }
     if is_word(word, b"message") {

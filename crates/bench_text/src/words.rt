@@ -15,14 +15,9 @@ pub fn is_blank(byte: u8) -> bool
 fn leading_bytes(text: &[u8], blanks: bool) -> usize
     ensures longest_run { result ≡ prefix_len (blanks_are blanks) text.now }
 {
-    let mut count = 0;
-    for byte in text {
-        if is_blank(*byte) != blanks {
-            return count;
-        }
-        count += 1;
-    }
-    count
+    text.iter()
+        .take_while(|byte| is_blank(**byte) == blanks)
+        .count()
 }
 
 /// The first word, empty where there is none, and what stands after it.
@@ -38,11 +33,9 @@ pub fn split_word(text: &[u8]) -> (&[u8], &[u8])
 pub fn without_newline(text: &[u8]) -> &[u8]
     ensures last_newline_cut { result.now ≡ line_in text.now }
 {
-    let end = text.len();
-    if end > 0 && text[end - 1] == b'\n' {
-        &text[0..end - 1]
-    } else {
-        text
+    match text {
+        [line @ .., b'\n'] => line,
+        _ => text,
     }
 }
 

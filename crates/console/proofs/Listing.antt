@@ -1,5 +1,5 @@
 -- Calls made one after the other: answers, what they leave, and their history.
-use Rattle.std.proofs.Common.{◌≡◌, ℕ, ◌+◌, ◌<◌, List, [], ◌∷◌, ◌++◌, map, reverse, length, get_or, take, sym, refl, ap, ◌∙◌, subst, append_assoc, append-nil}
+use Rattle.std.proofs.Common.{◌≡◌, ℕ, ◌+◌, ◌<◌, List, [], ◌∷◌, ◌++◌, map, reverse, length, get_or, take, Vec, Global, sym, refl, ap, ◌∙◌, subst, append_assoc, append-nil}
 use mathlib.Core.List.{map-append, reverse-append}
 use Rattle.std.proofs.lemmas.List.{take_more}
 use Rattle.links.specs.Meaning.{LinkKind, Lawful}
@@ -10,15 +10,15 @@ use Rattle.machine.specs.Parts as parts
 use Rattle.machine.specs.Runs.{Entry, History, New, Ran}
 use Rattle.watches.specs.Meaning.{WatchKind, LawfulWatch}
 use Rattle.console.specs.declared.call.Answer.{Answer}
-use Rattle.console.specs.declared.call.Call as code
+use Rattle.records.specs.declared.call.Call as code
 use Rattle.console.specs.Consoles.{call_of, answer_of, Steps, BalancedThroughout}
 use Rattle.console.specs.Lists.{entries, history_of}
 use Rattle.console.proofs.Going.{throughout}
 
 -- one call more of a list of them
-pub called_more : (cs : List code.Call) (i : ℕ) (c : code.Call) → i < length cs → c ≡ get_or cs i c → map call_of (take (i + 1) cs) ≡ map call_of (take i cs) ++ call_of c ∷ []
+pub called_more : (cs : List (code.Call (Vec ℕ Global))) (i : ℕ) (c : code.Call (Vec ℕ Global)) → i < length cs → c ≡ get_or cs i c → map call_of (take (i + 1) cs) ≡ map call_of (take i cs) ++ call_of c ∷ []
 called_more cs i c h is =
-    ap (map call_of) (take_more cs i c h) ∙ map-append call_of (take i cs) (get_or cs i c ∷ []) ∙ ap (λ (x : code.Call). map call_of (take i cs) ++ call_of x ∷ []) (sym is)
+    ap (map call_of) (take_more cs i c h) ∙ map-append call_of (take i cs) (get_or cs i c ∷ []) ∙ ap (λ (x : code.Call (Vec ℕ Global)). map call_of (take i cs) ++ call_of x ∷ []) (sym is)
 
 module _ {K0 K1 K2 : LinkKind} {W : WatchKind} where
   pub after_none : (m : Machine K0 K1 K2 W) → after_all m [] ≡ m
@@ -40,7 +40,7 @@ module _ {K0 K1 K2 : LinkKind} {W : WatchKind} where
   answers_more m (d ∷ cs) c = ap (λ (rest : List (parts.Answer Told)). answer_to m d ∷ rest) (answers_more (after m d) cs c)
 
   -- the answers and the machine after one call more
-  pub all_more : (m now next : Machine K0 K1 K2 W) (cs : List code.Call) (i : ℕ) (c : code.Call) (xs ys : List Answer) (a : Answer) → i < length cs → c ≡ get_or cs i c
+  pub all_more : (m now next : Machine K0 K1 K2 W) (cs : List (code.Call (Vec ℕ Global))) (i : ℕ) (c : code.Call (Vec ℕ Global)) (xs ys : List Answer) (a : Answer) → i < length cs → c ≡ get_or cs i c
       → ys ≡ xs ++ a ∷ [] → map answer_of xs ≡ answers_to m (map call_of (take i cs)) → now ≡ after_all m (map call_of (take i cs))
       → Steps now (call_of c) (answer_of a) next
       → (map answer_of ys ≡ answers_to m (map call_of (take (i + 1) cs))) × (next ≡ after_all m (map call_of (take (i + 1) cs)))

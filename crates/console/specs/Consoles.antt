@@ -1,5 +1,6 @@
 -- What a call adds to a run, on a console over any three links and any watch.
-use Rattle.std.specs.Prelude.{◌≡◌, ℕ, [], ◌∷◌, vec_items}
+use Rattle.std.specs.Prelude.{◌≡◌, ℕ, [], ◌∷◌, vec_items, Vec}
+use Rattle.std.specs.Global.{Global}
 use Rattle.executive.specs.Meaning.{meaning}
 use Rattle.links.specs.declared.link.Link as link
 use Rattle.links.specs.Meaning.{LinkKind}
@@ -10,14 +11,14 @@ use Rattle.machine.specs.Machine.{Machine}
 use Rattle.machine.specs.Outcomes.{told_of}
 use Rattle.machine.specs.Parts as parts
 use Rattle.machine.specs.Runs.{History, New, Ran}
+use Rattle.records.specs.declared.call.Call.{Call}
+use Rattle.records.specs.declared.call.Call.TheVariants.{Submit, Deliver, Tick, Sample, Collect}
 use Rattle.watches.specs.declared.watch.Watch as watch
 use Rattle.watches.specs.Meaning.{WatchKind}
 use Rattle.console.specs.declared.call.Answer.{Answer}
-use Rattle.console.specs.declared.call.Call.{Call}
-use Rattle.console.specs.declared.call.Call.TheVariants.{Submit, Deliver, Tick, Sample, Collect}
 use Rattle.console.specs.declared.console.Console.{Console}
 
-abbrev pub call_of : Call → calls.Call
+abbrev pub call_of : Call (Vec ℕ Global) → calls.Call
 call_of (Submit packet) = calls.submit (vec_items packet)
 call_of (Deliver link bytes) = calls.deliver link (vec_items bytes)
 call_of Tick = calls.tick

@@ -1,20 +1,8 @@
 // A call with what it carries, and what it is answered.
 use machine::answers::Outcome;
 
-/// One of the five calls.
-#[derive(Drop)]
-pub enum Call {
-    /// A telecommand packet.
-    Submit { packet: Vec<u8> },
-    /// Bytes received on a link.
-    Deliver { link: u32, bytes: Vec<u8> },
-    /// 10 ms have passed.
-    Tick,
-    /// One housekeeping value of a function.
-    Sample { function: u32, value: u32 },
-    /// Hands out the oldest event, else the oldest report.
-    Collect,
-}
+/// One of the five calls, with bytes of its own.
+pub type Call = records::call::Call<Vec<u8>>;
 
 /// The outcome, and the events raised and lost in the call.
 #[derive(Clone, Copy)]

@@ -1,8 +1,8 @@
-use Rattle.std.proofs.Common.{◌≡◌, true, List, [], map, vec_items, sym, refl, ap, ◌∙◌, rules}
+use Rattle.std.proofs.Common.{◌≡◌, ℕ, true, List, [], map, vec_items, Vec, Global, sym, refl, ap, ◌∙◌, rules}
 use Rattle.std.proofs.lemmas.List.{take_all}
 use Rattle.std.proofs.lemmas.Bool.{both_ways}
 use Rattle.machine.specs.Calls.{answers_to, after_all}
-use Rattle.console.specs.declared.call.Call.{Call}
+use Rattle.records.specs.declared.call.Call.{Call}
 use Rattle.console.specs.Consoles.{call_of, answer_of, machine_of}
 use Rattle.console.proofs.Listing.{after_none, answers_none, all_more}
 use Rattle.console.proofs.list.work_all.Goals as goal
@@ -27,7 +27,7 @@ returns g c =
     let m = machine_of g.A.Link g.B.Link g.C.Link g.W.Watch c.args.console.now in
     let all = take_all c.loop-call.call-index c.args.calls.now c.loop-call-test.false in
     record {
-      answers_of_the_machine = c.loop-call.invariant.2 ∙ ap (λ (cs : List Call). answers_to m (map call_of cs)) all;
+      answers_of_the_machine = c.loop-call.invariant.2 ∙ ap (λ (cs : List (Call (Vec ℕ Global))). answers_to m (map call_of cs)) all;
       error_changes_nothing = λ e. absurd (both_ways true e refl);
-      left_by_all_calls = c.loop-call.invariant.3 ∙ ap (λ (cs : List Call). after_all m (map call_of cs)) all;
+      left_by_all_calls = c.loop-call.invariant.3 ∙ ap (λ (cs : List (Call (Vec ℕ Global))). after_all m (map call_of cs)) all;
     }
