@@ -1,9 +1,9 @@
 -- The bench is a new machine.
-use Rattle.std.proofs.Common.{◌≡◌, ℕ, false, ◌&&◌, None, refl, arith}
+use Rattle.std.proofs.Common.{◌≡◌, ℕ, false, ◌&&◌, Some, None, Option, refl, arith}
 use Rattle.std.proofs.lemmas.Bool.{and_right}
 use Rattle.links.specs.Meaning.{idle}
 use Rattle.watches.specs.declared.part.Part.{Part}
-use Rattle.watches.specs.declared.part.Part.TheVariants.{Left, Right, Neither}
+use Rattle.watches.specs.declared.part.Part.TheVariants.{Left, Right}
 use Rattle.watches.specs.Kinds.{nothing_seen, still_kind, moving_kind, band_kind}
 use Rattle.watches.specs.Meaning.{within, WatchKind}
 use Rattle.watches.specs.Pairs.{part_of, pair_trouble, pair_kind}
@@ -12,10 +12,10 @@ use Rattle.machine.specs.Runs.{New}
 
 -- a pair of watches with nothing in trouble has nothing in trouble
 pair_good : (L R : WatchKind) (s : L.State × R.State) → ((f : ℕ) → L.trouble s.0 f ≡ false) → ((f : ℕ) → R.trouble s.1 f ≡ false)
-    → (p : Part) → pair_trouble L R s p ≡ false
-pair_good L R s left right (Left f) = left f
-pair_good L R s left right (Right f) = right f
-pair_good L R s left right Neither = refl
+    → (p : Option Part) → pair_trouble L R s p ≡ false
+pair_good L R s left right (Some (Left f)) = left f
+pair_good L R s left right (Some (Right f)) = right f
+pair_good L R s left right None = refl
 
 bench_good : (f : ℕ) → bench_watch.trouble (nothing_seen, (nothing_seen, record { lowest = 100; highest = 200; trouble = false })) f ≡ false
 bench_good f =

@@ -7,7 +7,7 @@ pub struct Command {
     pub parameter: u32,
 }
 
-#[derive(Clone, Copy)]
+#[derive(Clone, Copy, PartialEq, Eq, Debug)]
 pub enum Reply {
     /// The unit took the command.
     Ack,

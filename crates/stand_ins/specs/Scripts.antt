@@ -1,5 +1,5 @@
 -- The scripted kind: what its script makes of each call.
-use Rattle.std.specs.Prelude.{ℕ, ◌+◌, ◌≤◌, Bool, true, false, cond, List, [], length, Some, None, Ok, Err, Option, Result, nat_le, nat_lt, slice_index_or}
+use Rattle.std.specs.Prelude.{ℕ, ◌+◌, ◌≤◌, min, max, Bool, true, false, cond, List, [], length, Some, None, Ok, Err, Option, Result, nat_le, nat_lt, slice_index_or}
 use Rattle.records.specs.declared.command.Command.{Command}
 use Rattle.records.specs.declared.command.Reply.{Reply}
 use Rattle.records.specs.declared.command.Reply.TheVariants.{Ack}
@@ -59,6 +59,10 @@ scripted_polled (Some c) None waited s = s
 scripted_polled (Some c) (Some cue) true s = scripted_idle s
 scripted_polled (Some c) (Some cue) false s =
     record { script = s.script; at = s.at; taken = s.taken; held = Some c; cue = Some cue; polls = s.polls + 1 }
+
+-- the wait limit of 1 to 50 that is nearest to so many ticks
+abbrev pub nearest_limit : ℕ → ℕ
+nearest_limit ticks = max 1 (min ticks 50)
 
 abbrev pub scripted_kind : ℕ → LinkKind
 scripted_kind limit = record {

@@ -3,7 +3,6 @@
 
 #[cfg(test)]
 mod link_tests;
-pub mod patience;
 pub mod script;
 pub mod scripted;
 #[cfg(test)]

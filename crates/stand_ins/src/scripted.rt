@@ -1,21 +1,22 @@
 // A link that replies as a script says: the next cue is for the next command, and with no cue left it never replies.
-ghost use Rattle.std.specs.Prelude.{◌≡◌, ◌≤◌, length};
-
 use crate::script::Cue;
-use records::command::Command;
+use links::intake::Intake;
 
 pub mod calls;
 
-/// `at` is the next cue of the script; `cue` is for the held command; `polls` counts the polls of it that found nothing.
-#[derive(Drop)]
-pub struct Scripted<P> {
-    patience: P,
+/// Waits `TICKS`, or the nearest limit that a link may have. `at` is the next cue of the script; `cue` is for the held
+/// command; `polls` counts the polls of it that found nothing.
+#[derive(Clone, Copy)]
+pub struct Scripted<const TICKS: u32> {
     script: [Cue; 8],
     at: usize,
-    taken: u32,
-    held: Option<Command>,
+    intake: Intake,
     cue: Option<Cue>,
     polls: u8,
-    ghost count: { taken ≤ 1000000 },
-    ghost cues: { length script ≡ 8 },
 }
+
+/// Waits one tick.
+pub type Hasty = Scripted<1>;
+
+/// Waits fifty ticks.
+pub type Patient = Scripted<50>;

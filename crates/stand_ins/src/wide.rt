@@ -15,25 +15,21 @@ pub type Sixteen = Pair<Eight, Eight>;
 
 pub type Wide = Pair<Sixteen, Pair<Four, Pair<Two, Still>>>;
 
-pub(crate) fn two() -> Two {
-    Pair::new(Still::new(), Still::new())
-}
-
-pub(crate) fn four() -> Four {
-    Pair::new(two(), two())
-}
-
-pub(crate) fn eight() -> Eight {
-    Pair::new(four(), four())
-}
-
-pub(crate) fn sixteen() -> Sixteen {
-    Pair::new(eight(), eight())
+/// A watch twice.
+pub(crate) fn doubled<W: Watch + Copy>(watch: W) -> Pair<W, W>
+    ensures both { result ≡ record { left = watch; right = watch } }
+{
+    Pair::new(watch, watch)
 }
 
 /// Twenty-three functions, each of a Still.
-pub(crate) fn wide() -> Wide {
-    Pair::new(sixteen(), Pair::new(four(), Pair::new(two(), Still::new())))
+pub(crate) fn wide() -> Wide
+    ensures twenty_three { ⟦<Wide as Watch>⟧.kind.width (⟦<Wide as Watch>⟧.state result) ≡ 23 }
+{
+    let two = doubled(Still::new());
+    let four = doubled(two);
+    let sixteen = doubled(doubled(four));
+    Pair::new(sixteen, Pair::new(four, Pair::new(two, Still::new())))
 }
 
 pub fn wide_width() -> u32

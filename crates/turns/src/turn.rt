@@ -41,7 +41,7 @@ fn may_wait<L: Link>(hold: Option<Hold>) -> bool
     ensures younger_than_the_limit { result ≡ nat_lt (age_of hold + 1) L.kind.limit }
     ensures can_grow_older { result ≡ true → age_of hold < 4294967295 }
 {
-    age(hold) < L::longest_wait().saturating_sub(1)
+    age(hold) < L::WAIT_LIMIT.saturating_sub(1)
 }
 
 /// Nothing was due: the command grows older, or is abandoned at the wait limit.

@@ -13,7 +13,7 @@ pub type BenchWatch = Pair<Still, Pair<Moving, Band>>;
 
 /// A Still, a Moving, and a Band of 100 to 200.
 pub fn bench_watch() -> BenchWatch
-    ensures all_three_new { ⟦<Pair<Still, Pair<Moving, Band>> as Watch>⟧.state result ≡ new_watch }
+    ensures all_three_new { ⟦<BenchWatch as Watch>⟧.state result ≡ new_watch }
 {
     Pair::new(Still::new(), Pair::new(Moving::new(), Band::new(100, 200)))
 }

@@ -1,75 +1,73 @@
 // What a scripted link does.
-ghost use Rattle.std.specs.Prelude.{◌≡◌, None};
+ghost use Rattle.std.specs.Prelude.{◌≡◌, None, refl};
 ghost use Rattle.stand_ins.specs.Plays.{PlaysAnyReplies};
 ghost use Rattle.stand_ins.specs.Scripted.{scripted_state};
-ghost use Rattle.stand_ins.specs.Scripts.{scripted_kind};
+ghost use Rattle.stand_ins.specs.Scripts.{nearest_limit, scripted_kind};
 ghost use Rattle.std.proofs.Common.{rules, arith};
 
-use crate::patience::Patience;
 use crate::script::Cue;
 use crate::scripted::Scripted;
 use links::answers::{OfferRefusal, Receipt};
-use links::link::{Link, MOST_TAKEN};
+use links::intake::Intake;
+use links::link::Link;
 use records::command::{Command, Reply};
 
-impl<P: Patience> Scripted<P> {
-    pub fn new(patience: P, script: [Cue; 8]) -> Self
+// Kept: a constant may not call the library's `clamp`.
+const fn nearest_limit(ticks: u32) -> u32
+    ensures from_1_to_50 { result ≡ nearest_limit ticks }
+{
+    match ticks {
+        0 => 1,
+        1..=50 => ticks,
+        _ => 50,
+    }
+}
+
+impl<const TICKS: u32> Scripted<TICKS> {
+    pub fn new(script: [Cue; 8]) -> Self
         ensures idle_at_the_scripts_start { scripted_state result ≡ record { script = script; at = 0; taken = 0; held = None; cue = None; polls = 0 } }
-        ensures any_replies_in_any_order { PlaysAnyReplies P.Patience.ticks script }
+        ensures any_replies_in_any_order { PlaysAnyReplies (nearest_limit TICKS) script }
     {
         Scripted {
-            patience,
             script,
             at: 0,
-            taken: 0,
-            held: None,
+            intake: Intake::new(),
             cue: None,
             polls: 0,
         }
     }
 }
 
-impl<P: Patience> Link for Scripted<P> {
-    ghost kind = { scripted_kind P.Patience.ticks };
+impl<const TICKS: u32> Link for Scripted<TICKS> {
+    ghost kind = { scripted_kind (nearest_limit TICKS) };
 
     ghost state = { scripted_state };
 
-    const WAIT_LIMIT: u32 = P::TICKS;
+    ghost WAIT_LIMIT = { nearest_limit TICKS };
+
+    const WAIT_LIMIT: u32 = nearest_limit(TICKS);
+
+    ghost the_kinds_limit = { refl };
 
     ghost lawful = { first_of (Prim.search rules, Prim.grind (arith, Self.row.coded.inj)) };
 
     ghost ok = { first_of (Prim.search rules, Prim.grind (arith, Self.row.coded.inj)) };
 
-    fn longest_wait() -> u32 {
-        P::limit()
-    }
-
     fn offer(&mut self, command: Command) -> Result<(), OfferRefusal> {
-        if self.held.is_some() {
-            return Err(OfferRefusal::Busy);
-        }
-        if self.taken >= MOST_TAKEN {
-            return Err(OfferRefusal::Spent);
-        }
-        self.taken += 1;
-        self.held = Some(command);
+        self.intake.offer(command)?;
         self.polls = 0;
-        if self.at < 8 {
-            self.cue = Some(self.script[self.at]);
+        self.cue = self.script.get(self.at).copied();
+        if self.cue.is_some() {
             self.at += 1;
-        } else {
-            self.cue = None;
         }
         Ok(())
     }
 
     fn poll(&mut self) -> Option<Reply> {
-        if self.held.is_none() {
+        if !self.intake.is_held() {
             return None;
         }
-        let Some(cue) = self.cue else {
-            return None;
-        };
+        let cue = self.cue?;
         if self.polls < cue.polls {
             self.polls += 1;
             return None;
@@ -83,15 +81,16 @@ impl<P: Patience> Link for Scripted<P> {
     }
 
     fn abandon(&mut self) {
-        self.held = None;
+        self.intake.release();
         self.cue = None;
         self.polls = 0;
     }
 
     fn is_held(&self) -> bool {
-        self.held.is_some()
+        self.intake.is_held()
     }
 
+    // Kept: as the trait's own bodies these two would have to be right for the wire too.
     fn message_length(&self) -> usize {
         0
     }

@@ -1,6 +1,5 @@
-use Rattle.std.proofs.Common.{refl}
 use Rattle.stand_ins.proofs.Playing.{plays}
 use Rattle.stand_ins.proofs.scripted.Scripted.new.Goals as goal
 
-pub returns : goal.returns
-returns g c = record { idle_at_the_scripts_start = refl; any_replies_in_any_order = plays g.P.Patience.ticks c.args.script }
+pub returns-clause-any_replies_in_any_order : goal.returns-clause-any_replies_in_any_order
+returns-clause-any_replies_in_any_order g c = plays _ c.args.script
