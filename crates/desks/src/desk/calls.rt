@@ -43,7 +43,7 @@ fn action_in(procedures: &[Option<Procedure>], id: u16, step: usize) -> Action
         return Action::Wait { ticks: 0 };
     }
     match &procedures[place] {
-        Some(p) => item(&p.actions, step, Action::Wait { ticks: 0 }),
+        Some(p) => item(&p.actions.items, step, Action::Wait { ticks: 0 }),
         None => Action::Wait { ticks: 0 },
     }
 }
@@ -69,7 +69,7 @@ fn steps_in(procedures: &[Option<Procedure>], id: u16) -> usize
         return 0;
     }
     match &procedures[place] {
-        Some(p) => p.count,
+        Some(p) => p.actions.count,
         None => 0,
     }
 }
