@@ -11,8 +11,8 @@ use Rattle.records.specs.declared.report.Stage.{Stage}
 use Rattle.records.specs.declared.report.Stage.TheVariants.{Started, Done, Failed}
 use Rattle.records.specs.declared.step.Step.{Step}
 use Rattle.records.specs.Faults.{at_step}
-use Rattle.telecommands.specs.declared.packet.Settings.{Settings}
-use Rattle.telecommands.specs.declared.packet.Steps.{Steps}
+use Rattle.telecommands.specs.Fields.{Settings}
+use Rattle.telecommands.specs.Fields.{Steps}
 use Rattle.watches.specs.Meaning.{within}
 use Rattle.machine.specs.declared.state.Action.{Action}
 use Rattle.machine.specs.declared.state.Action.TheVariants.{Wait, Send, Expect}
@@ -36,7 +36,7 @@ Sends (Expect f) = Unit {0}
 -- a loaded procedure has at most 28 steps
 abbrev pub Loaded : Option Procedure → Type 0
 Loaded None = Unit {0}
-Loaded (Some p) = (p.count ≤ 28) × AllByRecursion Sends p.actions
+Loaded (Some p) = (p.actions.count ≤ 28) × AllByRecursion Sends p.actions.items
 
 -- no more commands were sent than there are steps up to the one where the run stands
 abbrev pub FitState : RunState → ℕ → ℕ → Type 0
@@ -131,7 +131,7 @@ sent_fit r link d fit now few low = rerun_fit d (Some (sent_on r link)) fit (now
 
 pub action_sends : (p : Option Procedure) (step : ℕ) → Loaded p → Sends (action_at p step)
 action_sends None step loaded = tt
-action_sends (Some p) step loaded = all_read Sends p.actions step (Wait 0) loaded.1 tt
+action_sends (Some p) step loaded = all_read Sends p.actions.items step (Wait 0) loaded.1 tt
 
 -- what is loaded
 abbrev SendsIf : Option Action → Type 0

@@ -11,8 +11,8 @@ use Rattle.records.specs.declared.fault.FaultKind.TheVariants.{InvalidFunction, 
 use Rattle.records.specs.declared.report.Report.{Report}
 use Rattle.records.specs.declared.report.Stage.TheVariants.{Started}
 use Rattle.records.specs.Faults.{fault_of}
-use Rattle.telecommands.specs.declared.packet.Settings.{Settings}
-use Rattle.telecommands.specs.declared.packet.Steps.{Steps}
+use Rattle.telecommands.specs.Fields.{Settings}
+use Rattle.telecommands.specs.Fields.{Steps}
 use Rattle.telecommands.specs.declared.packet.Telecommand.{Telecommand}
 use Rattle.telecommands.specs.declared.packet.Telecommand.TheVariants.{Test, Perform, Load, Delete, Start, Stop, Set}
 use Rattle.watches.specs.Meaning.{WatchKind}

@@ -127,7 +127,7 @@ failed_run (Some r) f d = reported (with_run d None) r.number (Failed r.sent (at
 -- how many steps the procedure that runs has
 abbrev pub steps_of : Option Procedure → ℕ
 steps_of None = 0
-steps_of (Some p) = p.count
+steps_of (Some p) = p.actions.count
 
 -- before the next step, or done after the last
 abbrev pub passed : Run → Desk → Desk

@@ -46,7 +46,7 @@ spent_on r spent = record { id = r.id; number = r.number; step = r.step; sent = 
 
 abbrev pub action_at : Option Procedure → ℕ → Action
 action_at None step = Wait 0
-action_at (Some p) step = slice_index_or p.actions step (Wait 0)
+action_at (Some p) step = slice_index_or p.actions.items step (Wait 0)
 
 -- parameter 0 is the value 0
 abbrev pub parameter_of : Option Procedure → ℕ → ℕ

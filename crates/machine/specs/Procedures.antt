@@ -3,12 +3,13 @@ use Rattle.std.specs.Prelude.{ℕ, ◌+◌, ◌-◌, Bool, cond, ◌&&◌, List,
 use Rattle.records.specs.declared.fault.Fault.{Fault}
 use Rattle.records.specs.declared.fault.FaultKind.{FaultKind}
 use Rattle.records.specs.declared.fault.FaultKind.TheVariants.{InvalidActivity, InvalidSid, InvalidParameter, InvalidWatched, InvalidProcedure, IllegalLoad, TooManyParameters, InvalidStep, EmptyProcedure, RunningProcedure, IllegalParameterId}
+use Rattle.records.specs.declared.fixed_list.FixedList.{FixedList}
 use Rattle.records.specs.declared.report.Stage.TheVariants.{Started}
 use Rattle.records.specs.declared.step.Step.{Step}
 use Rattle.records.specs.Faults.{fault_of}
 use Rattle.telecommands.specs.declared.packet.Setting.{Setting}
-use Rattle.telecommands.specs.declared.packet.Settings.{Settings}
-use Rattle.telecommands.specs.declared.packet.Steps.{Steps}
+use Rattle.telecommands.specs.Fields.{Settings}
+use Rattle.telecommands.specs.Fields.{Steps}
 use Rattle.watches.specs.Meaning.{within}
 use Rattle.machine.specs.declared.state.Action.{Action}
 use Rattle.machine.specs.declared.state.Action.TheVariants.{Wait, Send, Expect}
@@ -69,12 +70,18 @@ action_in (Some action) = action
 abbrev pub steps_in : Steps → List Step
 steps_in s = take s.count s.items
 
+-- an action for each step that counts; the other places wait for no tick
+abbrev pub actions_for : ℕ → ℕ → Steps → FixedList Action 28
+actions_for width nop s = record {
+  items = map (λ step. action_in (action_of width nop step)) (steps_in s) ++ drop s.count (replicate 28 (Wait 0));
+  count = s.count;
+}
+
 abbrev pub loaded_with : ℕ → ℕ → Steps → Procedure
 loaded_with width nop s = record {
   nop = nop;
   parameters = replicate 25 0;
-  actions = map (λ step. action_in (action_of width nop step)) (steps_in s) ++ drop s.count (replicate 28 (Wait 0));
-  count = s.count;
+  actions = actions_for width nop s;
 }
 
 abbrev pub loading : ℕ → Desk → ℕ → ℕ → Steps → Outcome
@@ -108,7 +115,7 @@ abbrev pub settings_in : Settings → List Setting
 settings_in s = take s.count s.items
 
 abbrev pub with_parameters : Procedure → List ℕ → Procedure
-with_parameters p parameters = record { nop = p.nop; parameters = parameters; actions = p.actions; count = p.count }
+with_parameters p parameters = record { nop = p.nop; parameters = parameters; actions = p.actions }
 
 abbrev pub illegal_fault : Option ℕ → Option Fault
 illegal_fault None = None

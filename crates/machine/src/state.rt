@@ -1,4 +1,5 @@
 // What the executive holds beside its links, its watch and its stores.
+use records::fixed_list::FixedList;
 
 #[derive(Clone, Copy, PartialEq, Eq)]
 pub enum LinkStatus {
@@ -38,13 +39,12 @@ pub enum Action {
     },
 }
 
-/// A loaded procedure: the first `count` actions and the first `nop` parameters are its own.
+/// A loaded procedure: an action for each of its steps; the first `nop` parameters are its own.
 #[derive(Clone, Copy)]
 pub struct Procedure {
     pub nop: u16,
     pub parameters: [u32; 25],
-    pub actions: [Action; 28],
-    pub count: usize,
+    pub actions: FixedList<Action, 28>,
 }
 
 #[derive(Clone, Copy)]

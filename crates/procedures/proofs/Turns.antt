@@ -9,7 +9,7 @@ use Rattle.machine.specs.declared.state.Action.TheVariants.{Wait}
 use Rattle.machine.specs.declared.state.Procedure.{Procedure}
 use Rattle.machine.specs.Procedures.{action_of, action_in, first_bad, steps_in, loaded_with, written_to}
 use Rattle.procedures.specs.Judging.{actions_from, judged_steps}
-use Rattle.telecommands.specs.declared.packet.Steps.{Steps}
+use Rattle.telecommands.specs.Fields.{Steps}
 
 abbrev pub blank_step : Step
 blank_step = record { op = 0; b = 0; w = 0; u = 0; v = 0 }

@@ -1,8 +1,8 @@
 -- Steps as actions, if all are good; the two activities that set something.
 use Rattle.std.specs.Prelude.{ℕ, cond, min, List, ◌++◌, map, length, drop, Ok, Err, Result, ◌==◌}
 use Rattle.records.specs.declared.step.Step.{Step}
-use Rattle.telecommands.specs.declared.packet.Settings.{Settings}
-use Rattle.telecommands.specs.declared.packet.Steps.{Steps}
+use Rattle.telecommands.specs.Fields.{Settings}
+use Rattle.telecommands.specs.Fields.{Steps}
 use Rattle.machine.specs.declared.state.Action.{Action}
 use Rattle.machine.specs.declared.state.Procedure.{Procedure}
 use Rattle.machine.specs.Desks.{Desk}

@@ -10,10 +10,10 @@ use Rattle.records.specs.declared.refusal.Refusal.TheVariants.{Short, Long, Leng
 use Rattle.telecommands.specs.declared.packet.Packet.{Packet}
 use Rattle.telecommands.specs.declared.packet_type.PacketType.{PacketType}
 use Rattle.telecommands.specs.declared.packet_type.PacketType.TheVariants.{ConnectionTest, FunctionActivity, ProcedureLoad, ProcedureDelete, ProcedureStart, ProcedureStop, ProcedureSettings}
-use Rattle.telecommands.specs.Fields.{step_at, setting_at}
+use Rattle.telecommands.specs.Fields.{step_at, setting_at, blank_step, blank_setting}
 use Rattle.telecommands.specs.Headers.{wrong_place, computed_word, stated_word}
 use Rattle.telecommands.specs.Judgements.{SettingsInPlace, TelecommandInPlace, FieldsInPlace}
-use Rattle.telecommands.specs.Packets.{blank_step, blank_setting, step_count, settings_in, packet_in, telecommand_in, typed, headed, read_packet}
+use Rattle.telecommands.specs.Packets.{step_count, settings_in, packet_in, telecommand_in, typed, headed, read_packet}
 use Rattle.telecommands.specs.Types.{type_of, data_bytes, data_fits}
 
 abbrev service_of : PacketType → ℕ

@@ -5,14 +5,11 @@ use Rattle.octets.specs.Words.{word_at, long_at}
 use Rattle.records.specs.declared.refusal.Refusal.{Refusal}
 use Rattle.records.specs.Refusals.{refusal_number}
 use Rattle.telecommands.specs.declared.packet.Packet.{Packet}
-use Rattle.telecommands.specs.declared.packet.Settings.{Settings}
-use Rattle.telecommands.specs.declared.packet.Steps.{Steps}
 use Rattle.telecommands.specs.declared.packet.Telecommand.{Telecommand}
 use Rattle.telecommands.specs.declared.packet.Telecommand.TheVariants.{Test, Perform, Load, Delete, Start, Stop, Set}
 use Rattle.telecommands.specs.declared.packet_type.PacketType.{PacketType}
-use Rattle.telecommands.specs.Fields.{step_at, setting_at}
+use Rattle.telecommands.specs.Fields.{Steps, Settings, step_at, setting_at, blank_step, blank_setting}
 use Rattle.telecommands.specs.Headers.{wrong_place, computed_word, stated_word}
-use Rattle.telecommands.specs.Packets.{blank_step, blank_setting}
 use Rattle.telecommands.specs.Types.{type_of, data_fits}
 
 -- whether the data fits; no data fits an unknown type

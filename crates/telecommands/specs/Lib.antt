@@ -1,5 +1,6 @@
 pub mod Cases
 pub mod Fields
+pub mod Frames
 pub mod Headers
 pub mod Judgements
 pub mod Packets

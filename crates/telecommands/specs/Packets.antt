@@ -1,26 +1,16 @@
 -- The answer to a packet: what it says, or the first refusal that applies.
-use Rattle.std.specs.Prelude.{ℕ, ◌+◌, ◌-◌, ◌/◌, ◌%◌, min, cond, List, ◌++◌, length, drop, replicate, Some, None, Ok, Err, Option, Result, ◌==◌, nat_lt, slice_index}
+use Rattle.std.specs.Prelude.{ℕ, ◌+◌, ◌-◌, ◌/◌, ◌%◌, min, cond, List, length, Some, None, Ok, Err, Option, Result, ◌==◌, nat_lt, slice_index}
 use Rattle.octets.specs.Words.{word_at, long_at}
 use Rattle.records.specs.declared.refusal.Refusal.{Refusal}
 use Rattle.records.specs.declared.refusal.Refusal.TheVariants.{Short, Long, Length, Header, Crc, UnknownType, Shape}
-use Rattle.records.specs.declared.step.Step.{Step}
 use Rattle.telecommands.specs.declared.packet.Packet.{Packet}
-use Rattle.telecommands.specs.declared.packet.Setting.{Setting}
-use Rattle.telecommands.specs.declared.packet.Settings.{Settings}
-use Rattle.telecommands.specs.declared.packet.Steps.{Steps}
 use Rattle.telecommands.specs.declared.packet.Telecommand.{Telecommand}
 use Rattle.telecommands.specs.declared.packet.Telecommand.TheVariants.{Test, Perform, Load, Delete, Start, Stop, Set}
 use Rattle.telecommands.specs.declared.packet_type.PacketType.{PacketType}
 use Rattle.telecommands.specs.declared.packet_type.PacketType.TheVariants.{ConnectionTest, FunctionActivity, ProcedureLoad, ProcedureDelete, ProcedureStart, ProcedureStop, ProcedureSettings}
-use Rattle.telecommands.specs.Fields.{step_at, setting_at, fields_from}
+use Rattle.telecommands.specs.Fields.{Steps, Settings, step_at, setting_at, blank_step, blank_setting, listed}
 use Rattle.telecommands.specs.Headers.{wrong_place, computed_word, stated_word}
 use Rattle.telecommands.specs.Types.{type_of, data_bytes, data_fits}
-
-abbrev pub blank_step : Step
-blank_step = record { op = 0; b = 0; w = 0; u = 0; v = 0 }
-
-abbrev pub blank_setting : Setting
-blank_setting = record { id = 0; value = 0 }
 
 -- how many steps a load has
 abbrev pub step_count : List ℕ → ℕ
@@ -28,11 +18,11 @@ step_count p = (data_bytes p - 4) / 8
 
 -- the steps stand from byte 14 on; the other places are blank
 abbrev pub steps_in : List ℕ → Steps
-steps_in p = record { items = fields_from (step_at p) 8 14 (step_count p) ++ drop (step_count p) (replicate 28 blank_step); count = step_count p }
+steps_in p = listed (step_at p) blank_step 8 14 28 (step_count p)
 
 -- the settings stand from byte 14 on, as many as the word at 12 says; the other places are blank
 abbrev pub settings_in : List ℕ → Settings
-settings_in p = record { items = fields_from (setting_at p) 6 14 (word_at p 12) ++ drop (word_at p 12) (replicate 38 blank_setting); count = word_at p 12 }
+settings_in p = listed (setting_at p) blank_setting 6 14 38 (word_at p 12)
 
 abbrev pub telecommand_in : PacketType → List ℕ → Telecommand
 telecommand_in ConnectionTest p = Test

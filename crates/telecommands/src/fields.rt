@@ -1,19 +1,26 @@
 // Fields that repeat in a packet: steps and settings.
-ghost use Rattle.std.specs.Prelude.{◌≡◌, ℕ, ◌+◌, ◌*◌, ◌≤◌, List, ◌++◌, length, drop};
-ghost use Rattle.telecommands.specs.Fields.{step_at, setting_at, fields_from};
+ghost use Rattle.std.specs.Prelude.{◌≡◌, ℕ, ◌+◌, ◌*◌, ◌<◌, ◌≤◌, cond, List, nat_lt};
+ghost use Rattle.telecommands.specs.Fields.{step_at, setting_at, blank_step, blank_setting, listed};
 
 use crate::packet::Setting;
 use octets::words::{byte_at, long_at, word_at};
+use records::fixed_list::FixedList;
 use records::step::Step;
+use std::array;
 
 /// What stands in a packet several times, one after the other.
 pub trait Field: Copy {
-    ghost size: { ℕ };
+    /// In bytes.
+    ghost SIZE: { ℕ };
+
+    ghost blank: { Self };
 
     ghost read: { List ℕ → ℕ → Self };
 
-    fn size() -> usize
-        ensures in_bytes { result ≡ size };
+    const SIZE: usize;
+
+    fn blank() -> Self
+        ensures no_field { result ≡ blank };
 
     fn read(packet: &[u8], at: usize) -> Self
         requires { at ≤ 248 }
@@ -21,12 +28,22 @@ pub trait Field: Copy {
 }
 
 impl Field for Step {
-    ghost size = { 8 };
+    ghost SIZE = { 8 };
+
+    ghost blank = { blank_step };
 
     ghost read = { step_at };
 
-    fn size() -> usize {
-        8
+    const SIZE: usize = 8;
+
+    fn blank() -> Step {
+        Step {
+            op: 0,
+            b: 0,
+            w: 0,
+            u: 0,
+            v: 0,
+        }
     }
 
     fn read(packet: &[u8], at: usize) -> Step {
@@ -41,12 +58,16 @@ impl Field for Step {
 }
 
 impl Field for Setting {
-    ghost size = { 6 };
+    ghost SIZE = { 6 };
+
+    ghost blank = { blank_setting };
 
     ghost read = { setting_at };
 
-    fn size() -> usize {
-        6
+    const SIZE: usize = 6;
+
+    fn blank() -> Setting {
+        Setting { id: 0, value: 0 }
     }
 
     fn read(packet: &[u8], at: usize) -> Setting {
@@ -57,12 +78,26 @@ impl Field for Setting {
     }
 }
 
-/// Reads so many fields into the first places, and leaves the others.
-pub fn read_fields<F: Field>(packet: &[u8], from: usize, count: usize, places: &mut [F])
-    requires { (count ≤ length places.old) × (from + F.size * count ≤ 248) }
-    ensures first_places { places.new ≡ fields_from (F.read packet.now) F.size from count ++ drop count places.old }
+/// So many fields, which stand in the packet from a byte on.
+pub fn read_fields<F: Field, const N: usize>(
+    packet: &[u8],
+    from: usize,
+    count: usize,
+) -> FixedList<F, N>
+    requires { (count ≤ N) × (from + F.SIZE * count ≤ 248) }
+    ensures then_blank_ones { result ≡ listed (F.read packet.now) F.blank F.SIZE from N count }
 {
-    for k in 0..count {
-        places[k] = F::read(packet, from + F::size() * k);
-    }
+    let items = array::from_fn(
+        |k: usize| -> F
+            requires { k < count → from + F.SIZE * k ≤ 248 }
+            ensures { result ≡ cond (nat_lt k count) (F.read packet.entry.now (from + F.SIZE * k)) F.blank }
+        {
+            if k < count {
+                F::read(packet, from + F::SIZE * k)
+            } else {
+                F::blank()
+            }
+        },
+    );
+    FixedList { items, count }
 }

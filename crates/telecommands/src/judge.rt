@@ -1,67 +1,96 @@
-// What is wrong with a packet: its header, its type, the shape of its data.
-ghost use Rattle.std.specs.Prelude.{◌≡◌, ◌≤◌, length};
-ghost use Rattle.telecommands.specs.Types.{type_of, data_fits};
+// What is wrong with a packet: its header, its check word, its type, the shape of its data.
+ghost use Rattle.std.specs.Prelude.{◌≡◌, slice_index};
+ghost use Rattle.std.specs.Option.{option_map};
+ghost use Rattle.std.specs.Result.{result_err};
+ghost use Rattle.records.specs.declared.refusal.Refusal.TheVariants.{Header};
+ghost use Rattle.telecommands.specs.Frames.{check_word_refusal, known, shape_refusal};
 ghost use Rattle.telecommands.specs.Headers.{wrong_place, computed_word};
+ghost use Rattle.telecommands.specs.Types.{type_of, data_fits};
 
+use crate::frame::{Frame, LEAST_BYTES};
 use crate::packet_type::PacketType;
 use octets::check::check_word;
 use octets::words::{byte_at, word_at};
+use records::refusal::Refusal;
 
-/// The first place where the header is wrong.
-pub fn wrong_place(packet: &[u8]) -> Option<u8>
-    ensures first_wrong { result ≡ wrong_place packet.now }
-{
-    if word_at(packet, 0) != 0x1C80 {
-        return Some(0);
-    }
-    if byte_at(packet, 2) < 0xC0 {
-        return Some(2);
-    }
-    if byte_at(packet, 6) != 1 {
-        return Some(6);
-    }
-    if byte_at(packet, 9) != 0 {
-        return Some(9);
-    }
-    None
-}
-
-/// The check word over all bytes but the last two.
-pub fn computed_word(packet: &[u8]) -> u16
-    requires { 2 ≤ length packet.now }
-    ensures of_earlier_bytes { result ≡ computed_word packet.now }
-{
-    check_word(&packet[0..packet.len() - 2])
-}
-
-pub fn type_of(service: u8, subtype: u8) -> Option<PacketType>
-    ensures one_of_seven { result ≡ type_of service subtype }
-{
-    match (service, subtype) {
-        (17, 1) => Some(PacketType::ConnectionTest),
-        (8, 4) => Some(PacketType::FunctionActivity),
-        (18, 1) => Some(PacketType::ProcedureLoad),
-        (18, 2) => Some(PacketType::ProcedureDelete),
-        (18, 3) => Some(PacketType::ProcedureStart),
-        (18, 4) => Some(PacketType::ProcedureStop),
-        (18, 7) => Some(PacketType::ProcedureSettings),
-        _ => None,
-    }
-}
-
-/// Whether the data has the length that its type asks for.
-pub fn data_fits(packet_type: PacketType, packet: &[u8]) -> bool
-    requires { 12 ≤ length packet.now }
-    ensures by_type { result ≡ data_fits packet_type packet.now }
-{
-    let bytes = packet.len() - 12;
-    match packet_type {
-        PacketType::ConnectionTest => bytes == 0,
-        PacketType::FunctionActivity => bytes == 8,
-        PacketType::ProcedureLoad => bytes >= 12 && bytes <= 228 && bytes % 8 == 4,
-        PacketType::ProcedureDelete | PacketType::ProcedureStop => bytes == 2,
-        PacketType::ProcedureStart | PacketType::ProcedureSettings => {
-            bytes == 4 + 6 * word_at(packet, 12) as usize
+impl<'a> Frame<'a> {
+    /// The first place where the header is wrong.
+    fn wrong_place(&self) -> Option<u8>
+        ensures first_wrong { result ≡ wrong_place self.now.bytes.now }
+    {
+        if word_at(self.bytes, 0) != 0x1C80 {
+            return Some(0);
         }
+        if byte_at(self.bytes, 2) < 0xC0 {
+            return Some(2);
+        }
+        if byte_at(self.bytes, 6) != 1 {
+            return Some(6);
+        }
+        if byte_at(self.bytes, 9) != 0 {
+            return Some(9);
+        }
+        None
+    }
+
+    pub fn judge_header(&self) -> Result<(), Refusal>
+        ensures at_the_first_wrong_place { result_err result ≡ option_map Header (wrong_place self.now.bytes.now) }
+    {
+        match self.wrong_place() {
+            Some(place) => Err(Refusal::Header { place }),
+            None => Ok(()),
+        }
+    }
+
+    /// The check word over all bytes but the last two.
+    fn computed_word(&self) -> u16
+        ensures of_earlier_bytes { result ≡ computed_word self.now.bytes.now }
+    {
+        check_word(&self.bytes[0..self.bytes.len() - 2])
+    }
+
+    pub fn judge_check_word(&self) -> Result<(), Refusal>
+        ensures unless_as_computed { result_err result ≡ check_word_refusal self.now.bytes.now }
+    {
+        let computed = self.computed_word();
+        if computed != word_at(self.bytes, self.bytes.len() - 2) {
+            return Err(Refusal::Crc { computed });
+        }
+        Ok(())
+    }
+
+    pub fn packet_type(&self) -> Result<PacketType, Refusal>
+        ensures one_of_seven { result ≡ known (type_of (slice_index self.now.bytes.now 7) (slice_index self.now.bytes.now 8)) self.now.bytes.now }
+    {
+        let service = byte_at(self.bytes, 7);
+        let subtype = byte_at(self.bytes, 8);
+        PacketType::of(service, subtype).ok_or(Refusal::UnknownType { service, subtype })
+    }
+
+    /// Whether the data has the length that its type asks for.
+    fn data_fits(&self, packet_type: PacketType) -> bool
+        ensures by_type { result ≡ data_fits packet_type self.now.bytes.now }
+    {
+        let bytes = self.bytes.len() - LEAST_BYTES;
+        match packet_type {
+            PacketType::ConnectionTest => bytes == 0,
+            PacketType::FunctionActivity => bytes == 8,
+            PacketType::ProcedureLoad => bytes >= 12 && bytes <= 228 && bytes % 8 == 4,
+            PacketType::ProcedureDelete | PacketType::ProcedureStop => bytes == 2,
+            PacketType::ProcedureStart | PacketType::ProcedureSettings => {
+                bytes == 4 + 6 * usize::from(word_at(self.bytes, 12))
+            }
+        }
+    }
+
+    pub fn judge_shape(&self, packet_type: PacketType) -> Result<(), Refusal>
+        ensures unless_data_fits { result_err result ≡ shape_refusal packet_type self.now.bytes.now }
+    {
+        if !self.data_fits(packet_type) {
+            return Err(Refusal::Shape {
+                bytes: (self.bytes.len() - LEAST_BYTES) as u8,
+            });
+        }
+        Ok(())
     }
 }

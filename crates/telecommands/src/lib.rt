@@ -3,6 +3,7 @@
 
 mod decode;
 mod fields;
+mod frame;
 mod judge;
 pub mod packet;
 mod packet_type;

@@ -1,12 +1,9 @@
 // What a telecommand packet says.
+use records::fixed_list::FixedList;
 use records::step::Step;
 
-/// The steps of a procedure, 28 at most: the first `count`, then blank ones.
-#[derive(Clone, Copy)]
-pub struct Steps {
-    pub items: [Step; 28],
-    pub count: usize,
-}
+/// The steps of a procedure, 28 at most, then blank ones.
+pub type Steps = FixedList<Step, 28>;
 
 /// A value for one parameter of a procedure.
 #[derive(Clone, Copy)]
@@ -15,12 +12,8 @@ pub struct Setting {
     pub value: u32,
 }
 
-/// Values for parameters in the order of the packet, which has room for 38: the first `count`, then blank ones.
-#[derive(Clone, Copy)]
-pub struct Settings {
-    pub items: [Setting; 38],
-    pub count: usize,
-}
+/// Values for parameters in the order of the packet, which has room for 38, then blank ones.
+pub type Settings = FixedList<Setting, 38>;
 
 #[derive(Clone, Copy)]
 pub enum Telecommand {

@@ -83,7 +83,7 @@ impl Desk {
         ensures of_the_procedure { result ≡ action_at (procedure_at (desk_of self.now) id) step }
     {
         self.procedure(id)
-            .and_then(|procedure| procedure.actions.get(step).copied())
+            .and_then(|procedure| procedure.actions.items.get(step).copied())
             .unwrap_or(Action::Wait { ticks: 0 })
     }
 
@@ -104,7 +104,7 @@ impl Desk {
     fn steps(&self, id: u16) -> usize
         ensures of_the_procedure { result ≡ steps_of (procedure_at (desk_of self.now) id) }
     {
-        self.procedure(id).map_or(0, |procedure| procedure.count)
+        self.procedure(id).map_or(0, |procedure| procedure.actions.count)
     }
 
     /// Ends the run with its final report.

@@ -1,24 +1,12 @@
-use Rattle.std.proofs.Common.{◌+◌, ◌*◌, ◌≤◌, arith}
-use Rattle.std.proofs.lemmas.Nat.{mul-le}
-use Rattle.telecommands.proofs.Filling.{filled_more}
-use Rattle.telecommands.proofs.fields.read_fields.Given as given
+use Rattle.std.proofs.Common.{ℕ, List, ◌+◌, ◌*◌, ◌∙◌, ap, cond, ltb, rules}
+use Rattle.records.specs.declared.fixed_list.FixedList.{FixedList}
+use Rattle.telecommands.proofs.Filling.{from_calls, blank_behind}
 use Rattle.telecommands.proofs.fields.read_fields.Goals as goal
 
--- each field begins within a packet
-within : (g : given.Over) (c : goal.After-size g) → c.args.from + c.size.result * c.loop-k.k ≤ 248
-within g c = omega (arith, mul-le c.size.result c.loop-k.k g.F.Field.size c.args.count (omega arith) (omega arith))
-
-pub overflow_mul-size : goal.overflow_mul-size
-overflow_mul-size g c = omega (arith, within g c)
-
-pub overflow_add-from : goal.overflow_add-from
-overflow_add-from g c = omega (arith, within g c)
-
-pub read-requires : goal.read-requires
-read-requires g c = within g c
-
-pub loop-k-preserved : goal.loop-k-preserved
-loop-k-preserved g c =
-    let more =
-    filled_more (λ k. g.F.Field.read c.args.packet.now (c.args.from + g.F.Field.size * k)) c.args.places.now c.loop-k.k (omega arith) in
-    cc
+pub returns : goal.returns
+returns g c =
+    let read = λ (k : ℕ). g.F.Field.read c.args.packet.now (c.args.from + g.F.Field.SIZE * k) in
+    let blank = g.F.Field.blank in
+    let filled = from_calls _ (λ k. cond (ltb k c.args.count) (read k) blank) _ (λ i y q call. (search rules, search rules)) c.from_fn-items.result g.row.N blank c.from_fn-items.ensures.items in
+    let all = filled ∙ blank_behind read blank c.args.count g.row.N c.requires.0 in
+    record { then_blank_ones = let make : List g.row.F.Denot → FixedList g.row.F.Denot g.row.N = λ items. record { items = items; count = c.args.count } in ap make all }
