@@ -119,13 +119,13 @@ fn write_report(line: &mut String, report: Report) -> Result<(), AllocError>
     write_stage(line, stage)
 }
 
-fn write_handed(line: &mut String, handed: Handed) -> Result<(), AllocError>
+fn write_handed(line: &mut String, handed: Option<Handed>) -> Result<(), AllocError>
     ensures event_report_or_nothing { Added result (handed_text (handing_of handed)) line.old line.new }
 {
     match handed {
-        Handed::Event { event } => write_event(line, event),
-        Handed::Report { report } => write_report(line, report),
-        Handed::Nothing => write!(line, "nothing"),
+        Some(Handed::Event { event }) => write_event(line, event),
+        Some(Handed::Report { report }) => write_report(line, report),
+        None => write!(line, "nothing"),
     }
 }
 

@@ -17,9 +17,4 @@ pub enum Call {
 }
 
 /// The outcome, and the events raised and lost in the call.
-#[derive(Clone, Copy)]
-pub struct Answer {
-    pub outcome: Outcome,
-    pub raised: u32,
-    pub lost: u32,
-}
+pub type Answer = machine::answers::Answer<Outcome>;
