@@ -6,13 +6,13 @@ ghost use Rattle.answer_text.specs.Answers.{handed_text, outcome_text};
 use machine::answers::{Handed, Outcome};
 use std::alloc::AllocError;
 
-fn write_handed(line: &mut String, handed: Handed) -> Result<(), AllocError>
+fn write_handed(line: &mut String, handed: Option<Handed>) -> Result<(), AllocError>
     ensures event_report_or_nothing { Added result (handed_text (handing_of handed)) line.old line.new }
 {
     match handed {
-        Handed::Event { event } => write!(line, "{event}"),
-        Handed::Report { report } => write!(line, "{report}"),
-        Handed::Nothing => write!(line, "nothing"),
+        Some(Handed::Event { event }) => write!(line, "{event}"),
+        Some(Handed::Report { report }) => write!(line, "{report}"),
+        None => write!(line, "nothing"),
     }
 }
 

@@ -1,7 +1,6 @@
 // One line of a session: the call it makes, and the line that answers it.
 ghost use Rattle.std.specs.Prelude.{◌≡◌, ◌++◌, IfOk, string_bytes, OnOk};
 ghost use Rattle.bench_text.specs.Lines.{said_by};
-ghost use Rattle.console.specs.Lives.{live_of};
 ghost use Rattle.machine.specs.Machine.{message_of};
 ghost use Rattle.bench.specs.Sessions.{place_after, after_line, printed};
 
@@ -23,7 +22,7 @@ pub fn next_place(last: u64, line: &Line) -> u64
 
 /// What a link would send now.
 fn message(heap: Global, console: &BenchConsole, link: u32) -> Result<Vec<u8>, AllocError>
-    ensures all_its_bytes { IfOk result (λ bytes. bytes.items ≡ message_of (live_of console.now) link) }
+    ensures all_its_bytes { IfOk result (λ bytes. bytes.items ≡ message_of console.now link) }
 {
     let length = console.message_length(link);
     let mut bytes = Vec::with_capacity(heap, length)?;
@@ -41,8 +40,8 @@ pub fn respond(
     place: u64,
     text: &mut String,
 ) -> anyhow::Result<()>
-    ensures machine_goes_on { live_of console.new ≡ after_line (live_of console.old) (said_by line) }
-    ensures answer_added { OnOk result (string_bytes text.new ≡ string_bytes text.old ++ printed (live_of console.old) place (said_by line)) }
+    ensures machine_goes_on { console.new ≡ after_line console.old (said_by line) }
+    ensures answer_added { OnOk result (string_bytes text.new ≡ string_bytes text.old ++ printed console.old place (said_by line)) }
 {
     let call = match line {
         Line::Skipped => return Ok(()),

@@ -9,9 +9,8 @@ use Rattle.machine.specs.Machine.{Machine}
 use Rattle.machine.specs.Parts as parts
 use Rattle.machine.specs.Runs.{Entry, History, New, Ran}
 use Rattle.watches.specs.Meaning.{WatchKind, LawfulWatch}
-use Rattle.console.specs.declared.call.Answer.{Answer}
 use Rattle.records.specs.declared.call.Call as code
-use Rattle.console.specs.Consoles.{call_of, answer_of, Steps, BalancedThroughout}
+use Rattle.console.specs.Consoles.{Answer, call_of, answer_of, Steps, BalancedThroughout}
 use Rattle.console.specs.Lists.{entries, history_of}
 use Rattle.console.proofs.Going.{throughout}
 

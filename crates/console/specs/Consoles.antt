@@ -4,18 +4,19 @@ use Rattle.std.specs.Global.{Global}
 use Rattle.executive.specs.Meaning.{meaning}
 use Rattle.links.specs.declared.link.Link as link
 use Rattle.links.specs.Meaning.{LinkKind}
+use Rattle.machine.specs.declared.answers.Answer as code
+use Rattle.machine.specs.declared.answers.Outcome.{Outcome}
 use Rattle.machine.specs.Calls.{Told}
 use Rattle.machine.specs.Balance.{view_of, Balanced, RunTied}
 use Rattle.machine.specs.Calls as calls
 use Rattle.machine.specs.Machine.{Machine}
-use Rattle.machine.specs.Outcomes.{told_of}
+pub use Rattle.machine.specs.Outcomes.{answer_of}
 use Rattle.machine.specs.Parts as parts
 use Rattle.machine.specs.Runs.{History, New, Ran}
 use Rattle.records.specs.declared.call.Call.{Call}
 use Rattle.records.specs.declared.call.Call.TheVariants.{Submit, Deliver, Tick, Sample, Collect}
 use Rattle.watches.specs.declared.watch.Watch as watch
 use Rattle.watches.specs.Meaning.{WatchKind}
-use Rattle.console.specs.declared.call.Answer.{Answer}
 use Rattle.console.specs.declared.console.Console.{Console}
 
 abbrev pub call_of : Call (Vec ℕ Global) → calls.Call
@@ -25,12 +26,9 @@ call_of Tick = calls.tick
 call_of (Sample f v) = calls.sample f v
 call_of Collect = calls.collect
 
--- an answer as the machine gives it
-abbrev pub answered : Told → ℕ → ℕ → parts.Answer Told
-answered outcome raised lost = record { outcome = outcome; raised = raised; lost = lost }
-
-abbrev pub answer_of : Answer → parts.Answer Told
-answer_of a = answered (told_of a.outcome) a.raised a.lost
+-- an answer to any of the five calls
+abbrev pub Answer : Type 0
+Answer = code.Answer Outcome
 
 module _ {A B C V : Type 0} (x : link.Ghosts A) (y : link.Ghosts B) (z : link.Ghosts C) (w : watch.Ghosts V) where
   abbrev pub machine_of : Console A B C V → Machine x.kind y.kind z.kind w.kind

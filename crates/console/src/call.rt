@@ -5,9 +5,4 @@ use machine::answers::Outcome;
 pub type Call = records::call::Call<Vec<u8>>;
 
 /// The outcome, and the events raised and lost in the call.
-#[derive(Clone, Copy)]
-pub struct Answer {
-    pub outcome: Outcome,
-    pub raised: u32,
-    pub lost: u32,
-}
+pub type Answer = machine::answers::Answer<Outcome>;

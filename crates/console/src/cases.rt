@@ -2,32 +2,20 @@
 ghost use Rattle.std.specs.Prelude.{◌≡◌, map, IfOk};
 ghost use Rattle.machine.specs.Calls.{answers_to};
 ghost use Rattle.machine.specs.Cases.{bench};
+ghost use Rattle.machine.specs.Outcomes.{answer_of};
 ghost use Rattle.console.specs.Cases.{AnsweredSo};
-ghost use Rattle.console.specs.Consoles.{call_of, answer_of};
+ghost use Rattle.console.specs.Consoles.{call_of};
 
 use crate::call::{Answer, Call};
 use crate::list::run_list;
-use links::processor::Processor;
-use links::wire::Wire;
+use machine::equipment::bench;
 use std::alloc::{AllocError, Global};
-use watches::band::Band;
-use watches::moving::Moving;
-use watches::pair::Pair;
-use watches::still::Still;
 
 /// A wire, two processors of delay 0; Still, Moving, and Band 100 to 200.
 pub fn work_the_bench(heap: Global, calls: &[Call]) -> Result<Vec<Answer>, AllocError>
     ensures answers_of_the_machine { IfOk result (λ answers. map answer_of answers.items ≡ answers_to bench (map call_of calls.now)) }
     ensures worked_cases { IfOk result (λ answers. AnsweredSo (map call_of calls.now) (map answer_of answers.items)) }
 {
-    let watch = Pair::new(Still::new(), Pair::new(Moving::new(), Band::new(100, 200)));
-    let (_, answers) = run_list(
-        heap,
-        Wire::new(),
-        Processor::new(0),
-        Processor::new(0),
-        watch,
-        calls,
-    )?;
+    let (_, answers) = run_list(heap, bench(), calls)?;
     Ok(answers)
 }

@@ -1,12 +1,15 @@
 // A console worked through a list of calls.
 ghost use Rattle.std.specs.Prelude.{◌≡◌, false, map, is_ok, IfOk};
-ghost use Rattle.machine.specs.Calls.{answers_to, after_all, made, Fresh};
-ghost use Rattle.console.specs.Consoles.{call_of, answer_of, machine_of, BalancedThroughout};
+ghost use Rattle.machine.specs.Calls.{answers_to, after_all};
+ghost use Rattle.machine.specs.Equipments.{made_of, FreshOf};
+ghost use Rattle.machine.specs.Outcomes.{answer_of};
+ghost use Rattle.console.specs.Consoles.{call_of, machine_of, BalancedThroughout};
 ghost use Rattle.console.specs.Lists.{history_of};
 
 use crate::call::{Answer, Call};
 use crate::console::Console;
 use links::link::Link;
+use machine::equipment::Equipment;
 use std::alloc::{AllocError, Global};
 use watches::watch::Watch;
 
@@ -27,20 +30,17 @@ pub fn work_all<A: Link, B: Link, C: Link, W: Watch>(
     Ok(answers)
 }
 
-/// Makes a console of three links and a watch, and works it through a list of calls.
+/// Makes a console of its equipment, and works it through a list of calls.
 pub fn run_list<A: Link + Drop, B: Link + Drop, C: Link + Drop, W: Watch + Drop>(
     heap: Global,
-    link0: A,
-    link1: B,
-    link2: C,
-    watch: W,
+    equipment: Equipment<A, B, C, W>,
     calls: &[Call],
 ) -> Result<(Console<A, B, C, W>, Vec<Answer>), AllocError>
-    ensures answers_of_the_machine { IfOk result (λ s. map answer_of s.1.items ≡ answers_to (made A.Link.kind B.Link.kind C.Link.kind W.Watch.kind (A.Link.state link0) (B.Link.state link1) (C.Link.state link2) (W.Watch.state watch)) (map call_of calls.now)) }
-    ensures left_by_all_calls { IfOk result (λ s. machine_of A.Link B.Link C.Link W.Watch s.0 ≡ after_all (made A.Link.kind B.Link.kind C.Link.kind W.Watch.kind (A.Link.state link0) (B.Link.state link1) (C.Link.state link2) (W.Watch.state watch)) (map call_of calls.now)) }
-    ensures balanced_after_each_call { IfOk result (λ s. Fresh A.Link.kind B.Link.kind C.Link.kind W.Watch.kind (A.Link.state link0) (B.Link.state link1) (C.Link.state link2) (W.Watch.state watch) → BalancedThroughout (history_of (map call_of calls.now) (map answer_of s.1.items)) (machine_of A.Link B.Link C.Link W.Watch s.0)) }
+    ensures answers_of_the_machine { IfOk result (λ s. map answer_of s.1.items ≡ answers_to (made_of A.Link B.Link C.Link W.Watch equipment) (map call_of calls.now)) }
+    ensures left_by_all_calls { IfOk result (λ s. machine_of A.Link B.Link C.Link W.Watch s.0 ≡ after_all (made_of A.Link B.Link C.Link W.Watch equipment) (map call_of calls.now)) }
+    ensures balanced_after_each_call { IfOk result (λ s. FreshOf A.Link B.Link C.Link W.Watch equipment → BalancedThroughout (history_of (map call_of calls.now) (map answer_of s.1.items)) (machine_of A.Link B.Link C.Link W.Watch s.0)) }
 {
-    let mut console = Console::new(link0, link1, link2, watch);
+    let mut console = Console::new(equipment);
     let answers = work_all(heap, &mut console, calls)?;
     Ok((console, answers))
 }

@@ -5,15 +5,22 @@ ghost use Rattle.console.specs.Benches.{bench_of};
 use crate::console::Console;
 use links::processor::Processor;
 use links::wire::Wire;
-use watches::band::Band;
-use watches::moving::Moving;
-use watches::pair::Pair;
-use watches::still::Still;
+use machine::equipment::BenchWatch;
+use std::marker::Model;
 
 pub mod calls;
 
 #[derive(Drop)]
 pub struct BenchConsole {
-    console: Console<Wire, Processor, Processor, Pair<Still, Pair<Moving, Band>>>,
+    console: Console<Wire, Processor, Processor, BenchWatch>,
     ghost ran: { ∥ ((h : History) × Ran h (bench_of console)) ∥₁ },
+}
+
+impl Model for BenchConsole {
+    ghost use Rattle.console.specs.Benches.{bench_of};
+    ghost use Rattle.console.specs.Lives.{Bench};
+
+    ghost Value = { Bench };
+
+    ghost view = { λ b. bench_of b.console };
 }

@@ -3,6 +3,7 @@ use crate::log::Log;
 use machine::state::{LinkStatus, Procedure, Run};
 
 pub mod calls;
+pub mod fails;
 
 #[derive(Drop)]
 pub struct Desk {

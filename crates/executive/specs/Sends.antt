@@ -11,7 +11,7 @@ use Rattle.links.specs.Meaning.{LinkKind, offer_answer}
 use Rattle.machine.specs.declared.state.Owner.{Owner}
 use Rattle.machine.specs.Desks.{is_blocked}
 use Rattle.machine.specs.declared.state.Run.{Run}
-use Rattle.machine.specs.Machine.{Machine, Answer, expected, with_desk, means_at, offered_at, turn0, turn1, turn2}
+use Rattle.machine.specs.Machine.{Machine, expected, with_desk, means_at, offered_at, turn0, turn1, turn2}
 use Rattle.records.specs.declared.command.Command.{Command}
 use Rattle.records.specs.declared.fault.Fault.{Fault}
 use Rattle.records.specs.declared.report.Stage.TheVariants.{Failed}
@@ -46,7 +46,3 @@ module _ {K0 K1 K2 : LinkKind} {W : WatchKind} where
   -- an EXPECT, as a step
   abbrev pub expecting : Machine K0 K1 K2 W → Run → ℕ → Machine K0 K1 K2 W
   expecting m r f = with_desk m (expected r f (W.trouble m.watch f) m.desk)
-
--- the answer to a call, as the tuple of outcome, raised and lost
-abbrev pub tupled : {A : Type 0} → Answer A → A × ℕ × ℕ
-tupled a = (a.outcome, a.raised, a.lost)

@@ -2,6 +2,7 @@ pub mod Balance
 pub mod Calls
 pub mod Cases
 pub mod Desks
+pub mod Equipments
 pub mod Executive
 pub mod Laws
 pub mod Machine

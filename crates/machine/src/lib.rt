@@ -3,6 +3,7 @@
 
 pub mod answers;
 pub mod cases;
+pub mod equipment;
 pub mod laws;
 pub mod state;
 pub mod statuses;

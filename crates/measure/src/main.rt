@@ -8,33 +8,26 @@ use crate::packets::{
 use executive::executive::Executive;
 use links::processor::Processor;
 use links::wire::Wire;
-use machine::answers::Handed;
+use machine::equipment::{BenchWatch, bench};
 use std::env;
 use std::mem::size_of;
 use std::time::{Duration, Instant};
-use watches::band::Band;
-use watches::moving::Moving;
-use watches::pair::Pair;
-use watches::still::Still;
 
 mod packets;
 
-type Watched = Pair<Still, Pair<Moving, Band>>;
-
-type Bench = Executive<Wire, Processor, Processor, Watched>;
+type Bench = Executive<Wire, Processor, Processor, BenchWatch>;
 
 /// How often each call is made.
 const ROUNDS: u32 = 20_000;
 
 fn make() -> Bench {
-    let watch = Pair::new(Still::new(), Pair::new(Moving::new(), Band::new(100, 200)));
-    Executive::new(Wire::new(), Processor::new(0), Processor::new(0), watch)
+    Executive::new(bench())
 }
 
 /// Hands out all that waits.
 fn drain(executive: &mut Bench) {
     for _ in 0..432u32 {
-        if let (Handed::Nothing, _, _) = executive.collect() {
+        if executive.collect().outcome.is_none() {
             return;
         }
     }

@@ -2,7 +2,7 @@
 use Rattle.std.proofs.Common.{◌≡◌, ℕ, ◌+◌, ◌<◌, true, false, List, [], ◌∷◌, ◌++◌, map, length, sym, refl, ap, ◌∙◌, subst, append_assoc, append-nil, arith}
 use Rattle.std.proofs.lemmas.List.{map_push}
 use Rattle.links.specs.Meaning.{LinkKind}
-use Rattle.console.specs.declared.call.Answer.{Answer}
+use Rattle.console.specs.Consoles.{Answer}
 use Rattle.console.specs.Consoles.{answer_of, Steps}
 use Rattle.machine.specs.Calls.{Told}
 use Rattle.machine.specs.Calls.{collect, answer_to, after}

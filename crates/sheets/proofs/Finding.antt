@@ -3,7 +3,7 @@ use Rattle.std.proofs.Common.{◌≡◌, ℕ, ◌+◌, ◌<◌, ◌≤◌, Bool,
 use Rattle.std.proofs.lemmas.List.{at_drop_more, at_drop_all}
 use Rattle.std.proofs.lemmas.List.Sums.{sum_by-cons}
 use Rattle.std.proofs.lemmas.Bool.Decides.{nat_tests}
-use Rattle.console.specs.declared.call.Answer.{Answer}
+use Rattle.console.specs.Consoles.{Answer}
 use Rattle.console.specs.Consoles.{answer_of}
 use Rattle.machine.specs.Calls.{Told}
 use Rattle.machine.specs.Balance.{is_final, finals_of}

@@ -2,7 +2,7 @@
 use Rattle.std.proofs.Common.{◌≡◌, ℕ, ◌+◌, ◌<◌, ◌≤◌, List, [], ◌∷◌, ◌++◌, map, length, get_or, take, sym, refl, ap, ◌∙◌, subst, arith}
 use Rattle.std.proofs.lemmas.List.{length-append, map_more}
 use Rattle.std.proofs.lemmas.List.Sums.{fold_push, sum_by-append}
-use Rattle.console.specs.declared.call.Answer.{Answer}
+use Rattle.console.specs.Consoles.{Answer}
 use Rattle.console.specs.Consoles.{answer_of}
 use Rattle.machine.specs.Calls.{Told}
 use Rattle.machine.specs.Balance.{is_done, is_failed, sent_by}

@@ -3,7 +3,7 @@ use Rattle.std.proofs.Common.{◌≡◌, ℕ, ◌+◌, ◌<◌, Bool, true, fals
 use Rattle.std.proofs.lemmas.List.{map_more}
 use Rattle.std.proofs.lemmas.List.Sums.{sum_by-append, sum_by_push}
 use Rattle.std.proofs.lemmas.Bool.Decides.{nat_tests}
-use Rattle.console.specs.declared.call.Answer as code
+use Rattle.console.specs.Consoles as code
 use Rattle.console.specs.Consoles.{answer_of}
 use Rattle.machine.specs.Calls.{Told}
 use Rattle.machine.specs.Balance.{View, is_final, finals_of, all_reports, pending_in}

@@ -25,7 +25,7 @@ fn final_in(answer: &Answer, number: u32) -> Option<Stage>
     ensures in_a_report_of_the_number { result ≡ first_final number (reports_in (told_of answer.now.outcome)) }
 {
     let Outcome::Collected {
-        handed: Handed::Report { report },
+        handed: Some(Handed::Report { report }),
     } = answer.outcome
     else {
         return None;

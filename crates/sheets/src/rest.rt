@@ -8,7 +8,7 @@ ghost use Rattle.sheets.specs.Rest.{hands_nothing, emptied, events_waiting, repo
 use console::call::{Answer, Call};
 use console::console::Console;
 use links::link::Link;
-use machine::answers::{Handed, Outcome};
+use machine::answers::Outcome;
 use std::alloc::{AllocError, Global};
 use watches::watch::Watch;
 
@@ -16,9 +16,7 @@ fn hands_nothing(answer: &Answer) -> bool
     ensures of_a_collect { result ≡ hands_nothing (told_of answer.now.outcome) }
 {
     match answer.outcome {
-        Outcome::Collected {
-            handed: Handed::Nothing,
-        } => true,
+        Outcome::Collected { handed: None } => true,
         _ => false,
     }
 }

@@ -3,7 +3,8 @@ ghost use Rattle.std.specs.Prelude.{◌≡◌, map, IfOk};
 ghost use Rattle.console.specs.Consoles.{call_of, answer_of, machine_of};
 ghost use Rattle.console.specs.Lists.{history_of};
 ghost use Rattle.machine.specs.Balance.{view_of};
-ghost use Rattle.machine.specs.Calls.{answers_to, made, Fresh};
+ghost use Rattle.machine.specs.Calls.{answers_to};
+ghost use Rattle.machine.specs.Equipments.{made_of, FreshOf};
 ghost use Rattle.machine.specs.Runs.{History};
 ghost use Rattle.sheets.specs.Histories.{answers_in};
 ghost use Rattle.sheets.specs.Rest.{emptied};
@@ -17,6 +18,7 @@ use console::call::{Answer, Call};
 use console::console::Console;
 use console::list::run_list;
 use links::link::Link;
+use machine::equipment::Equipment;
 use std::alloc::{AllocError, Global};
 use watches::watch::Watch;
 
@@ -40,19 +42,16 @@ pub fn close_shift<A: Link, B: Link, C: Link, W: Watch>(
     Ok(totals(answers, rest.as_slice()))
 }
 
-/// Makes a console of three links and a watch, and works it through the calls of a shift.
+/// Makes a console of its equipment, and works it through the calls of a shift.
 pub fn work_shift<A: Link + Drop, B: Link + Drop, C: Link + Drop, W: Watch + Drop>(
     heap: Global,
-    link0: A,
-    link1: B,
-    link2: C,
-    watch: W,
+    equipment: Equipment<A, B, C, W>,
     calls: &[Call],
 ) -> Result<Shift, AllocError>
-    ensures answers_of_the_machine { IfOk result (λ s. map answer_of s.answers.items ≡ answers_to (made A.Link.kind B.Link.kind C.Link.kind W.Watch.kind (A.Link.state link0) (B.Link.state link1) (C.Link.state link2) (W.Watch.state watch)) (map call_of calls.now)) }
-    ensures balanced_if_fresh { IfOk result (λ s. Fresh A.Link.kind B.Link.kind C.Link.kind W.Watch.kind (A.Link.state link0) (B.Link.state link1) (C.Link.state link2) (W.Watch.state watch) → Closed A.Link.kind B.Link.kind C.Link.kind W.Watch.kind (history_of (map call_of calls.now) (map answer_of s.answers.items)) s.totals) }
+    ensures answers_of_the_machine { IfOk result (λ s. map answer_of s.answers.items ≡ answers_to (made_of A.Link B.Link C.Link W.Watch equipment) (map call_of calls.now)) }
+    ensures balanced_if_fresh { IfOk result (λ s. FreshOf A.Link B.Link C.Link W.Watch equipment → Closed A.Link.kind B.Link.kind C.Link.kind W.Watch.kind (history_of (map call_of calls.now) (map answer_of s.answers.items)) s.totals) }
 {
-    let (mut console, answers) = run_list(heap, link0, link1, link2, watch, calls)?;
+    let (mut console, answers) = run_list(heap, equipment, calls)?;
     let totals = close_shift(heap, &mut console, answers.as_slice())?;
     Ok(Shift { answers, totals })
 }

@@ -49,13 +49,13 @@ fn answer_tally(answer: &Answer) -> Tally
             ..NONE
         },
         Outcome::Collected {
-            handed: Handed::Event { .. },
+            handed: Some(Handed::Event { .. }),
         } => Tally {
             collected: 1,
             ..NONE
         },
         Outcome::Collected {
-            handed: Handed::Report { report },
+            handed: Some(Handed::Report { report }),
         } => stage_tally(report.stage),
         _ => NONE,
     };

@@ -10,9 +10,11 @@ use Rattle.records.specs.declared.fault.FaultKind.TheVariants as fault
 use Rattle.records.specs.Faults.{fault_of, nack_fault}
 use Rattle.desks.specs.declared.chain.LinkFault.{LinkFault}
 use Rattle.desks.specs.Chains.{link_fault}
+use Rattle.machine.specs.declared.answers.Raised.{Raised}
 use Rattle.machine.specs.declared.state.Hold.{Hold}
 use Rattle.machine.specs.declared.state.LinkStatus.TheVariants.{Stopped}
 use Rattle.machine.specs.Desks.{Desk, lost_in, with_status, raised_on}
+use Rattle.machine.specs.Outcomes.{raised_by, lost_by}
 use Rattle.machine.specs.Seats.{Seat, Ending, acknowledged, broken, ended, link_event, Turn, older, age_of, loudly}
 
 abbrev pub ending_of : Result (Unit {0}) LinkFault → Ending
@@ -25,6 +27,10 @@ pub record DeskAfter : Type 0 where
   pub raised : ℕ
   pub lost : ℕ
 
+-- by the event that was raised, if any
+abbrev pub desk_after : Desk → Option Raised → DeskAfter
+desk_after d e = record { desk = d; raised = raised_by e; lost = lost_by e }
+
 -- a fault is told by an event first
 abbrev pub failed_with : Event → Fault → Option Hold → Desk → DeskAfter
 failed_with e f h d = record { desk = ended h (broken f) (raised_on d e); raised = 1; lost = lost_in d.log }
@@ -36,6 +42,10 @@ replied (Nack code detail) place h d = failed_with (link_event event.Nack place 
 replied Odd place h d = failed_with (link_event event.Odd place 0) (fault_of fault.Odd place) h d
 
 module _ {K : LinkKind} where
+  -- a seat and the desk after a turn, by the event that was raised, if any
+  abbrev pub turn_after : Seat K → Desk → Option Raised → Turn K
+  turn_after s d e = record { seat = s; desk = d; raised = raised_by e; lost = lost_by e }
+
   -- a link that was polled in vain: its command grows older, or is abandoned at the wait limit
   abbrev pub unanswered : ℕ → Seat K → Desk → Turn K
   unanswered place s d =

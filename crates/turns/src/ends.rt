@@ -1,12 +1,13 @@
 // How a held command ends for its owner.
-ghost use Rattle.std.specs.Prelude.{◌≡◌, ◌≤◌};
+ghost use Rattle.std.specs.Prelude.{◌≡◌, Some};
 ghost use Rattle.desks.specs.Chains.{link_fault};
 ghost use Rattle.desks.specs.Desked.{desk_of};
 ghost use Rattle.machine.specs.Seats.{answered_run, ended};
-ghost use Rattle.turns.specs.Ends.{ending_of, DeskAfter, failed_with, replied};
+ghost use Rattle.turns.specs.Ends.{ending_of, desk_after, failed_with, replied};
 
 use desks::chain::{LinkFault, in_report, standing};
 use desks::desk::Desk;
+use machine::answers::Raised;
 use machine::state::{Hold, LinkStatus, Owner, Run, RunState};
 use records::command::Reply;
 use records::event::{Event, EventKind};
@@ -20,13 +21,7 @@ fn answer_run(run: Run, answer: Result<(), LinkFault>, desk: &mut Desk)
     match (run.state, in_report(standing(run), answer)) {
         (RunState::Ready { .. }, _) => {}
         (RunState::Sent { .. }, Ok(())) => desk.pass(run),
-        (RunState::Sent { .. }, Err(fault)) => desk.end_run(
-            run,
-            Stage::Failed {
-                sent: run.sent,
-                fault,
-            },
-        ),
+        (RunState::Sent { .. }, Err(fault)) => desk.fail_run(run, fault),
     }
 }
 
@@ -54,26 +49,24 @@ fn end(hold: Option<Hold>, answer: Result<(), LinkFault>, desk: &mut Desk)
     }
 }
 
-/// A command that ended with a fault: an event first. Answers the events raised and lost.
-pub fn fail(hold: Option<Hold>, event: Event, fault: LinkFault, desk: &mut Desk) -> (u32, u32)
-    ensures one_raised { (result.0 ≤ 1) × (result.1 ≤ 1) }
-    ensures event_then_owner { ◌≡◌ {A = DeskAfter} (record { desk = desk_of desk.new; raised = result.0; lost = result.1 }) (failed_with event (link_fault fault) hold (desk_of desk.old)) }
+/// A command that ended with a fault: an event first.
+pub fn fail(hold: Option<Hold>, event: Event, fault: LinkFault, desk: &mut Desk) -> Raised
+    ensures event_then_owner { desk_after (desk_of desk.new) (Some result) ≡ failed_with event (link_fault fault) hold (desk_of desk.old) }
 {
-    let lost = desk.log.raise(event);
+    let raised = desk.log.raise(event);
     end(hold, Err(fault), desk);
-    (1, lost)
+    raised
 }
 
-/// A command that its unit replied to.
-pub fn reply(place: u8, hold: Option<Hold>, reply: Reply, desk: &mut Desk) -> (u32, u32)
-    ensures at_most_one_raised { (result.0 ≤ 1) × (result.1 ≤ 1) }
-    ensures by_the_reply { ◌≡◌ {A = DeskAfter} (record { desk = desk_of desk.new; raised = result.0; lost = result.1 }) (replied reply place hold (desk_of desk.old)) }
+/// A command that its unit replied to. Answers the event that was raised, if any.
+pub fn reply(place: u8, hold: Option<Hold>, reply: Reply, desk: &mut Desk) -> Option<Raised>
+    ensures by_the_reply { desk_after (desk_of desk.new) result ≡ replied reply place hold (desk_of desk.old) }
 {
     let link = u32::from(place);
     match reply {
         Reply::Ack => {
             end(hold, Ok(()), desk);
-            (0, 0)
+            None
         }
         Reply::Nack { code, detail } => {
             desk.set_status(u16::from(place), LinkStatus::Stopped);
@@ -82,16 +75,12 @@ pub fn reply(place: u8, hold: Option<Hold>, reply: Reply, desk: &mut Desk) -> (u
                 place: link,
                 value: u32::from(code),
             };
-            fail(
-                hold,
-                event,
-                LinkFault::Nack {
-                    link: place,
-                    code,
-                    detail,
-                },
-                desk,
-            )
+            let fault = LinkFault::Nack {
+                link: place,
+                code,
+                detail,
+            };
+            Some(fail(hold, event, fault, desk))
         }
         Reply::Odd => {
             let event = Event {
@@ -99,7 +88,7 @@ pub fn reply(place: u8, hold: Option<Hold>, reply: Reply, desk: &mut Desk) -> (u
                 place: link,
                 value: 0,
             };
-            fail(hold, event, LinkFault::Odd { link: place }, desk)
+            Some(fail(hold, event, LinkFault::Odd { link: place }, desk))
         }
     }
 }

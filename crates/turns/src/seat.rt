@@ -1,5 +1,5 @@
 // A link, and for whom it holds its command.
-ghost use Rattle.std.specs.Prelude.{◌≡◌, ◌≤◌};
+ghost use Rattle.std.specs.Prelude.{◌≡◌, cond};
 ghost use Rattle.links.specs.Meaning.{offer_answer, receipt};
 ghost use Rattle.machine.specs.Parts.{pending_in};
 ghost use Rattle.machine.specs.Seats.{seat_offered, seat_abandoned, seat_received};
@@ -16,46 +16,43 @@ pub struct Seat<L: Link> {
     pub hold: Option<Hold>,
 }
 
-/// 1 for a link that holds a telecommand's command, which is a pending number.
-pub fn pending(hold: &Option<Hold>) -> u32
-    ensures one_for_a_telecommand { result ≡ pending_in hold.now }
-    ensures at_most_one { result ≤ 1 }
+/// Whether a link holds a telecommand's command, which is a pending number.
+pub fn is_pending(hold: Option<Hold>) -> bool
+    ensures for_a_telecommand { cond result 1 0 ≡ pending_in hold }
 {
-    match hold {
-        Some(hold) => match hold.owner {
-            Owner::Telecommand { .. } => 1,
-            Owner::Procedure => 0,
-        },
-        None => 0,
+    matches!(
+        hold,
+        Some(Hold {
+            owner: Owner::Telecommand { .. },
+            ..
+        })
+    )
+}
+
+impl<L: Link> Seat<L> {
+    /// Offers a command for an owner; if it is taken, its age is 0.
+    pub fn offer(&mut self, command: Command, owner: Owner) -> Result<(), OfferRefusal>
+        ensures as_the_link_answers { result ≡ offer_answer (L.kind.means (L.state self.old.link)) }
+        ensures noted_if_taken { seat_of L.Link self.new ≡ seat_offered command owner (seat_of L.Link self.old) }
+    {
+        let answer = self.link.offer(command);
+        if let Ok(()) = answer {
+            self.hold = Some(Hold { owner, age: 0 });
+        }
+        answer
     }
-}
 
-/// Offers a command for an owner; if it is taken, its age is 0.
-pub fn offer<L: Link>(
-    seat: &mut Seat<L>,
-    command: Command,
-    owner: Owner,
-) -> Result<(), OfferRefusal>
-    ensures as_the_link_answers { result ≡ offer_answer (L.kind.means (L.state seat.old.link)) }
-    ensures noted_if_taken { seat_of L.Link seat.new ≡ seat_offered command owner (seat_of L.Link seat.old) }
-{
-    let answer = seat.link.offer(command);
-    if let Ok(()) = answer {
-        seat.hold = Some(Hold { owner, age: 0 });
+    pub fn abandon(&mut self)
+        ensures idle_for_nobody { seat_of L.Link self.new ≡ seat_abandoned (seat_of L.Link self.old) }
+    {
+        self.link.abandon();
+        self.hold = None;
     }
-    answer
-}
 
-pub fn abandon<L: Link>(seat: &mut Seat<L>)
-    ensures idle_for_nobody { seat_of L.Link seat.new ≡ seat_abandoned (seat_of L.Link seat.old) }
-{
-    seat.link.abandon();
-    seat.hold = None;
-}
-
-pub fn receive<L: Link>(seat: &mut Seat<L>, bytes: &[u8]) -> Receipt
-    ensures as_the_link_answers { result ≡ receipt (L.kind.means (L.state seat.old.link)) (L.kind.means (L.kind.received (L.state seat.old.link) bytes.now)) }
-    ensures only_the_link { seat_of L.Link seat.new ≡ seat_received bytes.now (seat_of L.Link seat.old) }
-{
-    seat.link.receive(bytes)
+    pub fn receive(&mut self, bytes: &[u8]) -> Receipt
+        ensures as_the_link_answers { result ≡ receipt (L.kind.means (L.state self.old.link)) (L.kind.means (L.kind.received (L.state self.old.link) bytes.now)) }
+        ensures only_the_link { seat_of L.Link self.new ≡ seat_received bytes.now (seat_of L.Link self.old) }
+    {
+        self.link.receive(bytes)
+    }
 }

@@ -1,25 +1,23 @@
 // A link's turn in a tick.
-ghost use Rattle.std.specs.Prelude.{◌≡◌, ◌+◌, ◌<◌, ◌≤◌, true, nat_lt};
+ghost use Rattle.std.specs.Prelude.{◌≡◌, ◌+◌, ◌<◌, true, nat_lt};
 ghost use Rattle.desks.specs.Desked.{desk_of};
-ghost use Rattle.machine.specs.Seats.{Turn, age_of, older as older_by, turn as turn_of};
-ghost use Rattle.turns.specs.Ends.{unanswered as unanswered_in};
+ghost use Rattle.machine.specs.Seats.{age_of, older as older_by, turn as turn_of};
+ghost use Rattle.turns.specs.Ends.{turn_after, unanswered as unanswered_in};
 ghost use Rattle.turns.specs.Seated.{seat_of};
 
 use crate::ends::{fail, reply};
-use crate::seat::{Seat, abandon};
+use crate::seat::Seat;
 use desks::chain::LinkFault;
 use desks::desk::Desk;
 use links::link::Link;
+use machine::answers::Raised;
 use machine::state::Hold;
 use records::event::{Event, EventKind};
 
 fn age(hold: Option<Hold>) -> u32
     ensures of_the_command { result ≡ age_of hold }
 {
-    match hold {
-        Some(hold) => hold.age,
-        None => 0,
-    }
+    hold.map_or(0, |hold| hold.age)
 }
 
 /// The same note, one tick older.
@@ -27,13 +25,10 @@ fn older(hold: Option<Hold>) -> Option<Hold>
     requires { age_of hold < 4294967295 }
     ensures one_more_tick { result ≡ older_by hold }
 {
-    match hold {
-        Some(hold) => Some(Hold {
-            age: hold.age + 1,
-            ..hold
-        }),
-        None => None,
-    }
+    hold.map(|hold| Hold {
+        age: hold.age + 1,
+        ..hold
+    })
 }
 
 /// Whether a command that has just been polled in vain stays held.
@@ -45,36 +40,33 @@ fn may_wait<L: Link>(hold: Option<Hold>) -> bool
 }
 
 /// Nothing was due: the command grows older, or is abandoned at the wait limit.
-fn wait<L: Link>(place: u8, seat: &mut Seat<L>, desk: &mut Desk) -> (u32, u32)
-    ensures at_most_one_raised { (result.0 ≤ 1) × (result.1 ≤ 1) }
-    ensures older_or_abandoned { ◌≡◌ {A = Turn L.kind} (record { seat = seat_of L.Link seat.new; desk = desk_of desk.new; raised = result.0; lost = result.1 }) (unanswered_in place (seat_of L.Link seat.old) (desk_of desk.old)) }
+fn wait<L: Link>(place: u8, seat: &mut Seat<L>, desk: &mut Desk) -> Option<Raised>
+    ensures older_or_abandoned { turn_after (seat_of L.Link seat.new) (desk_of desk.new) result ≡ unanswered_in place (seat_of L.Link seat.old) (desk_of desk.old) }
 {
     let hold = seat.hold;
     if may_wait::<L>(hold) {
         seat.hold = older(hold);
-        return (0, 0);
+        return None;
     }
-    abandon(seat);
+    seat.abandon();
     let event = Event {
         kind: EventKind::NoAck,
         place: u32::from(place),
         value: 0,
     };
-    fail(hold, event, LinkFault::NoAck { link: place }, desk)
+    Some(fail(hold, event, LinkFault::NoAck { link: place }, desk))
 }
 
-/// One link's turn: an idle one has none. Answers the events raised and lost.
-pub fn turn<L: Link>(place: u8, seat: &mut Seat<L>, desk: &mut Desk) -> (u32, u32)
-    ensures at_most_one_raised { (result.0 ≤ 1) × (result.1 ≤ 1) }
-    ensures by_what_was_due { ◌≡◌ {A = Turn L.kind} (record { seat = seat_of L.Link seat.new; desk = desk_of desk.new; raised = result.0; lost = result.1 }) (turn_of place (seat_of L.Link seat.old) (desk_of desk.old)) }
+/// One link's turn: an idle one has none. Answers the event that was raised, if any.
+pub fn turn<L: Link>(place: u8, seat: &mut Seat<L>, desk: &mut Desk) -> Option<Raised>
+    ensures by_what_was_due { turn_after (seat_of L.Link seat.new) (desk_of desk.new) result ≡ turn_of place (seat_of L.Link seat.old) (desk_of desk.old) }
 {
     if !seat.link.is_held() {
-        return (0, 0);
+        return None;
     }
     match seat.link.poll() {
         Some(answer) => {
-            let hold = seat.hold;
-            seat.hold = None;
+            let hold = seat.hold.take();
             reply(place, hold, answer, desk)
         }
         None => wait(place, seat, desk),

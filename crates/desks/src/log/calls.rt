@@ -1,13 +1,13 @@
 // What the log takes and hands out.
 ghost use Rattle.std.specs.Prelude.{◌≡◌, ◌≤◌, length};
 ghost use Rattle.machine.specs.Desks.{empty_log, filed, raised_in, lost_in};
-ghost use Rattle.machine.specs.Outcomes.{handing_of};
+ghost use Rattle.machine.specs.Outcomes.{handing_of, lost_of};
 ghost use Rattle.machine.specs.Parts.{collected_from, handed};
 ghost use Rattle.desks.specs.Logs.{judged, issued, after_judged};
 
 use super::Log;
 use crate::ticket::Ticket;
-use machine::answers::Handed;
+use machine::answers::{Handed, Raised};
 use records::event::Event;
 use records::refusal::Refusal;
 use records::refusals::MOST;
@@ -48,28 +48,26 @@ impl Log {
         self.reports.put(Report { number, stage });
     }
 
-    /// Raises an event: 1 if it is lost, else 0.
-    pub fn raise(&mut self, event: Event) -> u32
-        ensures lost { result ≡ lost_in self.old }
-        ensures at_most_one { result ≤ 1 }
+    /// Raises an event: it waits behind the others, or it is lost.
+    pub fn raise(&mut self, event: Event) -> Raised
+        ensures lost { lost_of result ≡ lost_in self.old }
         ensures after { self.new ≡ raised_in self.old event }
     {
         self.raised = self.raised.saturating_add(1).min(MOST);
-        if self.events.put(event) { 0 } else { 1 }
+        Raised {
+            lost: !self.events.put(event),
+        }
     }
 
     /// Hands out the oldest event, else the oldest report.
-    pub fn take(&mut self) -> Handed
+    pub fn take(&mut self) -> Option<Handed>
         ensures events_first { handing_of result ≡ handed self.old.events self.old.reports }
         ensures after { self.new ≡ collected_from self.old.events self.old.reports self.old }
     {
         if let Some(event) = self.events.take() {
-            return Handed::Event { event };
+            return Some(Handed::Event { event });
         }
-        match self.reports.take() {
-            Some(report) => Handed::Report { report },
-            None => Handed::Nothing,
-        }
+        self.reports.take().map(|report| Handed::Report { report })
     }
 
     pub fn waiting_reports(&self) -> u32

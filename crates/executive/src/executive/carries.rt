@@ -14,7 +14,6 @@ use procedures::switches::set;
 use procedures::table::{delete, load, prepare, set_parameters};
 use records::command::Command;
 use records::fault::{Fault, FaultKind};
-use records::report::Stage;
 use telecommands::packet::{Settings, Telecommand};
 use watches::watch::Watch;
 
@@ -82,13 +81,7 @@ impl<A: Link, B: Link, C: Link, W: Watch> Executive<A, B, C, W> {
         let fault = FaultKind::ProcedureStopped
             .fault(u32::from(run.id))
             .at_step(standing(run));
-        self.desk.end_run(
-            run,
-            Stage::Failed {
-                sent: run.sent,
-                fault,
-            },
-        );
+        self.desk.fail_run(run, fault);
     }
 
     fn stop(&mut self, ticket: Ticket, id: u16)

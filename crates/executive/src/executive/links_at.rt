@@ -12,7 +12,6 @@ use links::answers::OfferRefusal;
 use links::link::Link;
 use machine::state::Owner;
 use records::command::Command;
-use turns::seat::{abandon, offer};
 use watches::watch::Watch;
 
 impl<A: Link, B: Link, C: Link, W: Watch> Executive<A, B, C, W> {
@@ -22,9 +21,9 @@ impl<A: Link, B: Link, C: Link, W: Watch> Executive<A, B, C, W> {
         ensures desk_as_it_was { desk_of self.new.desk ≡ desk_of self.old.desk }
     {
         match link {
-            0 => offer(&mut self.seat0, command, owner),
-            1 => offer(&mut self.seat1, command, owner),
-            _ => offer(&mut self.seat2, command, owner),
+            0 => self.seat0.offer(command, owner),
+            1 => self.seat1.offer(command, owner),
+            _ => self.seat2.offer(command, owner),
         }
     }
 
@@ -33,9 +32,9 @@ impl<A: Link, B: Link, C: Link, W: Watch> Executive<A, B, C, W> {
         ensures desk_as_it_was { desk_of self.new.desk ≡ desk_of self.old.desk }
     {
         match link {
-            0 => abandon(&mut self.seat0),
-            1 => abandon(&mut self.seat1),
-            _ => abandon(&mut self.seat2),
+            0 => self.seat0.abandon(),
+            1 => self.seat1.abandon(),
+            _ => self.seat2.abandon(),
         }
     }
 
@@ -48,10 +47,10 @@ impl<A: Link, B: Link, C: Link, W: Watch> Executive<A, B, C, W> {
         if self.desk.is_blocked(link) {
             return Err(LinkFault::Stopped { link });
         }
-        match self.offer_at(link, command, owner) {
-            Ok(()) => Ok(()),
-            Err(OfferRefusal::Busy) => Err(LinkFault::Used { link }),
-            Err(OfferRefusal::Spent) => Err(LinkFault::Worn { link }),
-        }
+        self.offer_at(link, command, owner)
+            .map_err(|refusal| match refusal {
+                OfferRefusal::Busy => LinkFault::Used { link },
+                OfferRefusal::Spent => LinkFault::Worn { link },
+            })
     }
 }

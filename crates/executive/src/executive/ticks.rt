@@ -2,29 +2,30 @@
 ghost use Rattle.std.specs.Prelude.{◌≡◌, ◌≤◌};
 ghost use Rattle.machine.specs.Desks.{procedure_at};
 ghost use Rattle.machine.specs.Machine.{action_at, waited, sending, stepped, stepped_run, tick_answer, after_tick, with_desk};
+ghost use Rattle.machine.specs.Outcomes.{answer_in};
 ghost use Rattle.executive.specs.Meaning.{meaning};
-ghost use Rattle.executive.specs.Sends.{tupled, finished_step, finished, turned, expecting};
+ghost use Rattle.executive.specs.Sends.{finished_step, finished, turned, expecting};
 
 use super::Executive;
 use desks::chain::{StepFault, in_step, standing};
 use links::link::Link;
+use machine::answers::Answer;
 use machine::state::{Action, Owner, Run, RunState};
 use records::command::Command;
 use records::fault::Fault;
-use records::report::Stage;
 use turns::turn::turn;
 use watches::watch::Watch;
 
 impl<A: Link, B: Link, C: Link, W: Watch> Executive<A, B, C, W> {
-    /// The three links in turn. Answers the events raised and lost.
-    fn turn_links(&mut self) -> (u32, u32)
-        ensures raised_and_lost { (result.0 ≡ (tick_answer (meaning A.Link B.Link C.Link W.Watch self.old)).raised) × (result.1 ≡ (tick_answer (meaning A.Link B.Link C.Link W.Watch self.old)).lost) }
+    /// The three links in turn.
+    fn turn_links(&mut self) -> Answer<()>
+        ensures raised_and_lost { answer_in result ≡ tick_answer (meaning A.Link B.Link C.Link W.Watch self.old) }
         ensures each_on_what_the_last_left { meaning A.Link B.Link C.Link W.Watch self.new ≡ turned (meaning A.Link B.Link C.Link W.Watch self.old) }
     {
-        let (raised0, lost0) = turn(0, &mut self.seat0, &mut self.desk);
-        let (raised1, lost1) = turn(1, &mut self.seat1, &mut self.desk);
-        let (raised2, lost2) = turn(2, &mut self.seat2, &mut self.desk);
-        (raised0 + raised1 + raised2, lost0 + lost1 + lost2)
+        let event0 = turn(0, &mut self.seat0, &mut self.desk);
+        let event1 = turn(1, &mut self.seat1, &mut self.desk);
+        let event2 = turn(2, &mut self.seat2, &mut self.desk);
+        Answer::quiet(()).and(event0).and(event1).and(event2)
     }
 
     /// A SEND: if its command is taken, the run waits for the reply.
@@ -32,17 +33,13 @@ impl<A: Link, B: Link, C: Link, W: Watch> Executive<A, B, C, W> {
         ensures sent_or_its_fault { finished_step result run (meaning A.Link B.Link C.Link W.Watch self.new) ≡ sending (meaning A.Link B.Link C.Link W.Watch self.old) run link command }
     {
         let answer = self.send(link, command, Owner::Procedure);
-        match in_step(standing(run), answer) {
-            Ok(()) => {
-                self.desk.run = Some(Run {
-                    sent: run.sent.saturating_add(1),
-                    state: RunState::Sent { link },
-                    ..run
-                });
-                Ok(())
-            }
-            Err(fault) => Err(fault),
-        }
+        in_step(standing(run), answer)?;
+        self.desk.run = Some(Run {
+            sent: run.sent.saturating_add(1),
+            state: RunState::Sent { link },
+            ..run
+        });
+        Ok(())
     }
 
     /// A WAIT, after so many ticks spent on it.
@@ -106,23 +103,17 @@ impl<A: Link, B: Link, C: Link, W: Watch> Executive<A, B, C, W> {
             return;
         };
         if let Err(fault) = self.take_step(run, spent) {
-            self.desk.end_run(
-                run,
-                Stage::Failed {
-                    sent: run.sent,
-                    fault,
-                },
-            );
+            self.desk.fail_run(run, fault);
         }
     }
 
     /// 10 ms have passed.
-    pub fn tick(&mut self) -> ((), u32, u32)
-        ensures answer { result ≡ tupled (tick_answer (meaning A.Link B.Link C.Link W.Watch self.old)) }
+    pub fn tick(&mut self) -> Answer<()>
+        ensures answer { answer_in result ≡ tick_answer (meaning A.Link B.Link C.Link W.Watch self.old) }
         ensures after { meaning A.Link B.Link C.Link W.Watch self.new ≡ after_tick (meaning A.Link B.Link C.Link W.Watch self.old) }
     {
-        let (raised, lost) = self.turn_links();
+        let answer = self.turn_links();
         self.step();
-        ((), raised, lost)
+        answer
     }
 }

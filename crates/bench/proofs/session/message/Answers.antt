@@ -1,12 +1,11 @@
 use Rattle.std.proofs.Common.{ℕ, ◌<◌, ◌≤◌, List, [], ◌∷◌, ◌++◌, length, take, sym, ap, ◌∙◌, arith, rules}
 use Rattle.std.proofs.lemmas.List.{take_more, take_all}
-use Rattle.console.specs.Lives.{live_of}
 use Rattle.machine.specs.Machine.{message_of}
 use Rattle.bench.proofs.session.message.Goals as goal
 
 pub loop-at-preserved : goal.loop-at-preserved
 loop-at-preserved c =
-    let sends = message_of (live_of c.args.console.now) c.args.link in
+    let sends = message_of c.args.console.now c.args.link in
     let inside : c.loop-at.at < length sends = omega (arith, c.loop-at-test.true, c.message_length-length.ensures.of_the_message) in
     let more = c.push_reserved.ensures.items
     ∙ ap (λ (l : List ℕ). l ++ c.message_byte.result ∷ []) c.loop-at.invariant.2
@@ -16,6 +15,6 @@ loop-at-preserved c =
 
 pub returns : goal.returns
 returns c =
-    let sends = message_of (live_of c.args.console.now) c.args.link in
+    let sends = message_of c.args.console.now c.args.link in
     let all : length sends ≤ c.loop-at.at = omega (arith, c.loop-at-test.false, c.message_length-length.ensures.of_the_message) in
     record { all_its_bytes = c.loop-at.invariant.2 ∙ take_all c.loop-at.at sends all }

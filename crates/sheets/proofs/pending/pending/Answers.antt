@@ -1,6 +1,6 @@
 use Rattle.std.proofs.Common.{◌≡◌, List, ◌++◌, map, sum_by, ap, ◌∙◌, arith}
 use Rattle.std.proofs.lemmas.List.{take_all}
-use Rattle.console.specs.declared.call.Answer.{Answer}
+use Rattle.console.specs.Consoles.{Answer}
 use Rattle.console.specs.Consoles.{answer_of}
 use Rattle.sheets.specs.Histories.{reports_of}
 use Rattle.sheets.specs.Pending.{open_by, pending_of}

@@ -1,5 +1,5 @@
 use Rattle.std.proofs.Common.{List, map, ap, ◌∙◌}
-use Rattle.console.specs.declared.call.Answer.{Answer}
+use Rattle.console.specs.Consoles.{Answer}
 use Rattle.console.specs.Consoles.{answer_of, machine_of}
 use Rattle.machine.specs.Balance.{view_of}
 use Rattle.sheets.proofs.shift.close_shift.Goals as goal

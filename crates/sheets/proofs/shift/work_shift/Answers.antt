@@ -1,8 +1,7 @@
 use Rattle.std.proofs.Common.{List, map, vec_items, sym, ap, ◌∙◌}
-use Rattle.console.specs.declared.call.Answer.{Answer}
-use Rattle.console.specs.Consoles.{call_of, answer_of, machine_of}
+use Rattle.console.specs.Consoles.{Answer, call_of, answer_of, machine_of}
 use Rattle.console.specs.Lists.{history_of}
-use Rattle.machine.specs.Calls.{made}
+use Rattle.machine.specs.Equipments.{made_of}
 use Rattle.sheets.proofs.Closing.{told_by, closed}
 use Rattle.sheets.proofs.shift.work_shift.Goals as goal
 
@@ -10,7 +9,7 @@ pub returns : goal.returns
 returns g c =
     let answers = map answer_of (vec_items c.in_ok-console.answers) in
     let calls = map call_of c.args.calls.now in
-    let begun = made g.A.Link.kind g.B.Link.kind g.C.Link.kind g.W.Watch.kind (g.A.Link.state c.args.link0) (g.B.Link.state c.args.link1) (g.C.Link.state c.args.link2) (g.W.Watch.state c.args.watch) in
+    let begun = made_of g.A.Link g.B.Link g.C.Link g.W.Watch c.args.equipment in
     let answered = c.in_ok-console.ensures.answers_of_the_machine in
     let sliced = ap (λ (l : List Answer). map answer_of l) c.as_slice.ensures.value in
     record {

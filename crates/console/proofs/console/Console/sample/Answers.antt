@@ -1,11 +1,10 @@
 use Rattle.std.proofs.Common.{ap}
-use Rattle.machine.specs.Calls.{sampled}
-use Rattle.console.specs.Consoles.{answered}
+use Rattle.machine.specs.Calls.{told, sampled}
 use Rattle.console.proofs.Going.{goes_on}
 use Rattle.console.proofs.console.Console.sample.Goals as goal
 
 pub returns : goal.returns
 returns g c = record {
-  as_the_machine_does = (ap (λ r. answered (sampled r.0) r.1 r.2) c.sample.ensures.answer, c.sample.ensures.after);
-  goes_on_balanced = goes_on g.met.A.Link.lawful g.met.B.Link.lawful g.met.C.Link.lawful g.met.W.Watch.lawful _ _ _ _ (ap (λ r. answered (sampled r.0) r.1 r.2) c.sample.ensures.answer, c.sample.ensures.after);
+  as_the_machine_does = (ap (told sampled) c.sample.ensures.answer, c.sample.ensures.after);
+  goes_on_balanced = goes_on g.met.A.Link.lawful g.met.B.Link.lawful g.met.C.Link.lawful g.met.W.Watch.lawful _ _ _ _ (ap (told sampled) c.sample.ensures.answer, c.sample.ensures.after);
 }
