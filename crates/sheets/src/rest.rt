@@ -15,12 +15,12 @@ use watches::watch::Watch;
 fn hands_nothing(answer: &Answer) -> bool
     ensures of_a_collect { result ≡ hands_nothing (told_of answer.now.outcome) }
 {
-    match answer.outcome {
+    matches!(
+        answer.outcome,
         Outcome::Collected {
-            handed: Handed::Nothing,
-        } => true,
-        _ => false,
-    }
+            handed: Handed::Nothing
+        }
+    )
 }
 
 /// Collects until nothing is handed out.
