@@ -6,7 +6,7 @@ ghost use Rattle.bench.specs.Sessions.{place_after, after_line, printed};
 
 use answer_text::lines::{write_answer, write_message, write_unreadable};
 use bench_text::line::Line;
-use console::call::{Answer, Call};
+use console::call::Answer;
 use console::live::BenchConsole;
 use std::alloc::{AllocError, Global};
 
@@ -24,12 +24,9 @@ pub fn next_place(last: u64, line: &Line) -> u64
 fn message(heap: Global, console: &BenchConsole, link: u32) -> Result<Vec<u8>, AllocError>
     ensures all_its_bytes { IfOk result (λ bytes. bytes.items ≡ message_of console.now link) }
 {
-    let length = console.message_length(link);
-    let mut bytes = Vec::with_capacity(heap, length)?;
-    for at in 0..length {
-        bytes.push_reserved(console.message_byte(link, at));
-    }
-    Ok(bytes)
+    (0..console.message_length(link))
+        .map(|at| console.message_byte(link, at))
+        .collect(heap)
 }
 
 /// Makes the call that a line asks for, and adds the line that answers it.
@@ -43,28 +40,21 @@ pub fn respond(
     ensures machine_goes_on { console.new ≡ after_line console.old (said_by line) }
     ensures answer_added { OnOk result (string_bytes text.new ≡ string_bytes text.old ++ printed console.old place (said_by line)) }
 {
-    let call = match line {
-        Line::Skipped => return Ok(()),
-        Line::Unreadable => {
-            write_unreadable(text, place)?;
-            return Ok(());
-        }
+    match line {
+        Line::Skipped => {}
+        Line::Unreadable => write_unreadable(text, place)?,
         Line::Message { link } => {
             let bytes = message(heap, console, link)?;
             write_message(text, place, bytes.as_slice())?;
-            return Ok(());
         }
-        Line::Submit { packet } => Call::Submit { packet },
-        Line::Deliver { link, bytes } => Call::Deliver { link, bytes },
-        Line::Tick => Call::Tick,
-        Line::Sample { function, value } => Call::Sample { function, value },
-        Line::Collect => Call::Collect,
-    };
-    let Answer {
-        outcome,
-        raised,
-        lost,
-    } = console.work(&call);
-    write_answer(text, place, outcome, raised, lost)?;
+        Line::Call(call) => {
+            let Answer {
+                outcome,
+                raised,
+                lost,
+            } = console.work(&call);
+            write_answer(text, place, outcome, raised, lost)?;
+        }
+    }
     Ok(())
 }

@@ -5,45 +5,41 @@ ghost use Rattle.handover.specs.Sheets.{verdict_of, counted, blank};
 
 use crate::verdict::{OtherCall, Totals, Verdict};
 use bench_text::line::Line;
+use records::call::Call;
 use telecommands::read::read_packet;
 
 /// The verdict on a line; none where the line does not count.
 pub fn verdict(line: &Line) -> Option<Verdict>
     ensures by_the_packet_reader { result ≡ verdict_of (said_by line.now) }
 {
-    match line {
-        Line::Skipped => None,
-        Line::Unreadable => Some(Verdict::Unreadable),
-        Line::Submit { packet } => match read_packet(packet.as_slice()) {
-            Ok(packet) => Some(Verdict::Taken(packet)),
-            Err(refusal) => Some(Verdict::Refused(refusal)),
-        },
-        Line::Deliver { .. } => Some(Verdict::NotJudged(OtherCall::Deliver)),
-        Line::Tick => Some(Verdict::NotJudged(OtherCall::Tick)),
-        Line::Sample { .. } => Some(Verdict::NotJudged(OtherCall::Sample)),
-        Line::Collect => Some(Verdict::NotJudged(OtherCall::Collect)),
-        Line::Message { .. } => Some(Verdict::NotJudged(OtherCall::Message)),
-    }
+    let call = match line {
+        Line::Skipped => return None,
+        Line::Unreadable => return Some(Verdict::Unreadable),
+        Line::Message { .. } => return Some(Verdict::NotJudged(OtherCall::Message)),
+        Line::Call(call) => call,
+    };
+    Some(match call {
+        Call::Submit { packet } => Verdict::Judged(read_packet(packet.as_slice())),
+        Call::Deliver { .. } => Verdict::NotJudged(OtherCall::Deliver),
+        Call::Tick => Verdict::NotJudged(OtherCall::Tick),
+        Call::Sample { .. } => Verdict::NotJudged(OtherCall::Sample),
+        Call::Collect => Verdict::NotJudged(OtherCall::Collect),
+    })
 }
 
 impl Totals {
     pub fn new() -> Self
         ensures nothing_counted { result ≡ blank }
     {
-        Totals {
-            taken: 0,
-            refused: 0,
-            not_judged: 0,
-            unreadable: 0,
-        }
+        Totals::default()
     }
 
     pub fn count(&mut self, verdict: &Verdict)
         ensures one_more { self.new ≡ counted self.old verdict.now }
     {
         match verdict {
-            Verdict::Taken(_) => self.taken = self.taken.saturating_add(1),
-            Verdict::Refused(_) => self.refused = self.refused.saturating_add(1),
+            Verdict::Judged(Ok(_)) => self.taken = self.taken.saturating_add(1),
+            Verdict::Judged(Err(_)) => self.refused = self.refused.saturating_add(1),
             Verdict::NotJudged(_) => self.not_judged = self.not_judged.saturating_add(1),
             Verdict::Unreadable => self.unreadable = self.unreadable.saturating_add(1),
         }

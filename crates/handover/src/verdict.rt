@@ -14,10 +14,8 @@ pub enum OtherCall {
 
 #[derive(Clone, Copy)]
 pub enum Verdict {
-    /// The packet would be taken.
-    Taken(Packet),
-    /// The packet would be refused.
-    Refused(Refusal),
+    /// The packet would be taken, or refused.
+    Judged(Result<Packet, Refusal>),
     /// Another call than a submit.
     NotJudged(OtherCall),
     /// No call at all.
@@ -25,7 +23,7 @@ pub enum Verdict {
 }
 
 /// How many lines got which verdict.
-#[derive(Clone, Copy)]
+#[derive(Clone, Copy, Default)]
 pub struct Totals {
     pub taken: u64,
     pub refused: u64,

@@ -1,46 +1,45 @@
 // Verdicts in words.
-ghost use Rattle.std.specs.Prelude.{◌≡◌};
-ghost use Rattle.handover.specs.Sheets.{call_word};
+ghost use Rattle.std.specs.Prelude.{Some};
+ghost use Rattle.handover.specs.Sheets.{call_word, verdict_text};
 
 use crate::verdict::{OtherCall, Verdict};
 use std::fmt;
 use telecommand_text::words::write_telecommand;
 use telecommands::packet::Packet;
 
-fn call_word(call: OtherCall) -> &'static str
-    ensures as_in_the_text { result.now ≡ call_word call }
-{
-    match call {
-        OtherCall::Deliver => "deliver",
-        OtherCall::Tick => "tick",
-        OtherCall::Sample => "sample",
-        OtherCall::Collect => "collect",
-        OtherCall::Message => "message",
+/// As a line asks for it.
+impl fmt::Display for OtherCall {
+    ghost output = { λ call. Some (call_word call) };
+
+    fn fmt<W: fmt::Write>(&self, f: &mut fmt::Formatter<W>) -> fmt::Result {
+        match self {
+            OtherCall::Deliver => write!(f, "deliver"),
+            OtherCall::Tick => write!(f, "tick"),
+            OtherCall::Sample => write!(f, "sample"),
+            OtherCall::Collect => write!(f, "collect"),
+            OtherCall::Message => write!(f, "message"),
+        }
     }
 }
 
 impl fmt::Display for Verdict {
+    ghost output = { λ verdict. Some (verdict_text verdict) };
+
     fn fmt<W: fmt::Write>(&self, f: &mut fmt::Formatter<W>) -> fmt::Result {
         match self {
-            Verdict::Taken(
-                Packet {
-                    counter,
-                    telecommand,
-                },
+            Verdict::Judged(
+                Ok(
+                    Packet {
+                        counter,
+                        telecommand,
+                    },
+                ),
             ) => {
                 write!(f, "taken, counter {counter}: ")?;
                 write_telecommand(telecommand, f)
             }
-            Verdict::Refused(refusal) => {
-                let number = refusal.number();
-                let name = refusal.name();
-                let parameter = refusal.parameter();
-                write!(f, "refused {number} {name} parameter {parameter}")
-            }
-            Verdict::NotJudged(call) => {
-                let word = call_word(*call);
-                write!(f, "not judged here: {word}")
-            }
+            Verdict::Judged(Err(refusal)) => write!(f, "{refusal}"),
+            Verdict::NotJudged(call) => write!(f, "not judged here: {call}"),
             Verdict::Unreadable => write!(f, "unreadable"),
         }
     }

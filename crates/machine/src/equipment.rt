@@ -6,10 +6,7 @@ ghost use Rattle.machine.specs.Equipments.{bench_made_of, BenchIsFresh};
 use links::link::Link;
 use links::processor::Processor;
 use links::wire::Wire;
-use watches::band::Band;
-use watches::moving::Moving;
-use watches::pair::Pair;
-use watches::still::Still;
+use watches::bench::{BenchWatch, bench_watch};
 use watches::watch::Watch;
 
 /// Each is a different one, and is used once.
@@ -20,9 +17,6 @@ pub struct Equipment<A: Link, B: Link, C: Link, W: Watch> {
     pub link2: C,
     pub watch: W,
 }
-
-/// The watch of the bench's three functions.
-pub type BenchWatch = Pair<Still, Pair<Moving, Band>>;
 
 pub type BenchEquipment = Equipment<Wire, Processor, Processor, BenchWatch>;
 
@@ -35,6 +29,6 @@ pub fn bench() -> BenchEquipment
         link0: Wire::new(),
         link1: Processor::new(0),
         link2: Processor::new(0),
-        watch: Pair::new(Still::new(), Pair::new(Moving::new(), Band::new(100, 200))),
+        watch: bench_watch(),
     }
 }

@@ -1,11 +1,11 @@
 -- Pending numbers by the answers, against the history's.
-use Rattle.std.proofs.Common.{◌≡◌, ℕ, ◌+◌, ◌<◌, Bool, true, false, cond, not, eqb, List, [], ◌∷◌, ◌++◌, map, reverse, length, get_or, take, is_some, sum_by, count_by, Option, sym, refl, ap, ◌∙◌, add_comm, arith}
-use Rattle.std.proofs.lemmas.List.{map_more}
-use Rattle.std.proofs.lemmas.List.Sums.{sum_by-append, sum_by_push}
+use Rattle.std.proofs.Common.{◌≡◌, ℕ, ◌+◌, Bool, true, false, cond, not, eqb, List, [], ◌∷◌, ◌++◌, map, reverse, is_some, sum_by, count_by, Ok, Err, Option, sym, refl, ap, ◌∙◌, add_comm, arith}
+use Rattle.std.proofs.lemmas.List.Sums.{sum_by-append, sum_by-cons, sum_by_push}
 use Rattle.std.proofs.lemmas.Bool.Decides.{nat_tests}
 use Rattle.console.specs.Consoles as code
 use Rattle.console.specs.Consoles.{answer_of}
 use Rattle.machine.specs.Calls.{Told}
+use Rattle.machine.specs.Calls.{submitted, delivered, ticked, sampled, collected}
 use Rattle.machine.specs.Balance.{View, is_final, finals_of, all_reports, pending_in}
 use Rattle.machine.specs.Laws.{handings}
 use Rattle.machine.specs.Parts.{Answer}
@@ -15,7 +15,7 @@ use Rattle.records.specs.declared.report.Report.{Report}
 use Rattle.records.specs.declared.report.Stage.{Stage}
 use Rattle.sheets.specs.Finals.{first_final}
 use Rattle.sheets.specs.Histories.{answers_in, reports_of}
-use Rattle.sheets.specs.Pending.{is_open, open_by, pending_of}
+use Rattle.sheets.specs.Pending.{is_open, open_by, gives_open, pending_of}
 use Rattle.sheets.proofs.Finding.{found_if_any}
 use Rattle.sheets.proofs.Handings.{sum_by_reverse, reports_collected}
 
@@ -79,10 +79,25 @@ module _ (n : ℕ) (xs ys : List Report) (found : Option Stage) (none : Bool) (i
   pub final_in_first : none ≡ false → none ≡ is_open (xs ++ ys) n
   final_in_first first = first ∙ sym (ap (λ b. cond b (is_open ys n) false) first) ∙ open_in_both (is_open ys n) refl
 
--- one answer more
-pub open_more : (reports : List Report) (answers : List code.Answer) (i : ℕ) (d : code.Answer) (n k : ℕ) → i < length answers
-    → n ≡ sum_by (open_by reports) (map answer_of (take i answers)) → k ≡ open_by reports (answer_of (get_or answers i d))
-    → n + k ≡ sum_by (open_by reports) (map answer_of (take (i + 1) answers))
-open_more reports answers i d n k more so next =
-    (λ j. so j + next j) ∙ sym (sum_by_push (open_by reports) (map answer_of (take i answers)) (answer_of (get_or answers i d)))
-    ∙ ap (sum_by (open_by reports)) (sym (map_more answer_of answers i d more))
+-- an answer gives one number at most
+none_or_one : (b : Bool) → cond (not (eqb (0 + cond b 1 0) 0)) 1 0 ≡ 0 + cond b 1 0
+none_or_one true = refl
+none_or_one false = refl
+
+given_by : (reports : List Report) (o : Told) → cond (not (eqb (count_by (is_open reports) (numbers_in o)) 0)) 1 0 ≡ count_by (is_open reports) (numbers_in o)
+given_by reports (submitted (Ok n)) = none_or_one (is_open reports n)
+given_by reports (submitted (Err why)) = refl
+given_by reports (delivered answer) = refl
+given_by reports ticked = refl
+given_by reports (sampled answer) = refl
+given_by reports (collected x) = refl
+
+open_if_given : (reports : List Report) (a : Answer Told) → cond (gives_open reports a) 1 0 ≡ open_by reports a
+open_if_given reports a = given_by reports a.outcome
+
+pub open_counted : (reports : List Report) (answers : List code.Answer) → count_by (λ a. gives_open reports (answer_of a)) answers ≡ sum_by (open_by reports) (map answer_of answers)
+open_counted reports [] = refl
+open_counted reports (a ∷ answers) =
+    sum_by-cons (λ x. cond (gives_open reports (answer_of x)) 1 0) a answers
+    ∙ (λ i. open_if_given reports (answer_of a) i + open_counted reports answers i)
+    ∙ sym (sum_by-cons (open_by reports) (answer_of a) (map answer_of answers))

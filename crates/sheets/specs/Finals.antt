@@ -4,8 +4,7 @@ use Rattle.machine.specs.Balance.{is_final}
 use Rattle.records.specs.declared.refusal.Refusal.{Refusal}
 use Rattle.records.specs.declared.report.Report.{Report}
 use Rattle.records.specs.declared.report.Stage.{Stage}
-use Rattle.sheets.specs.declared.row.Row.{Row}
-use Rattle.sheets.specs.declared.row.Row.TheVariants.{Refused, Accepted}
+use Rattle.sheets.specs.declared.row.Accepted.{Accepted}
 
 -- the stage, where it is final
 abbrev pub final_stage : Stage → Option Stage
@@ -24,6 +23,6 @@ first_final n [] = None
 first_final n (told ∷ more) = or_else (final_by n told) (first_final n more)
 
 -- refused, or accepted with the first final report among those given
-abbrev pub row_of : List Report → Result ℕ Refusal → Row
-row_of collected (Ok n) = Accepted n (first_final n collected)
-row_of collected (Err why) = Refused why
+abbrev pub row_of : List Report → Result ℕ Refusal → Result Accepted Refusal
+row_of collected (Ok n) = Ok (record { number = n; report = first_final n collected })
+row_of collected (Err why) = Err why

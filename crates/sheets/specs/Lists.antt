@@ -1,9 +1,10 @@
 -- What a line of text adds to a call list.
-use Rattle.std.specs.Prelude.{List, [], ◌∷◌, Some, None, Option}
+use Rattle.std.specs.Prelude.{ℕ, List, [], ◌∷◌, Some, None, Option, Vec}
+use Rattle.std.specs.Global.{Global}
 use Rattle.bench_text.specs.Lines as text
-use Rattle.console.specs.declared.call.Call.{Call}
 use Rattle.console.specs.Consoles.{call_of}
 use Rattle.machine.specs.Calls as calls
+use Rattle.records.specs.declared.call.Call.{Call}
 use Rattle.sheets.specs.declared.list.Mark.{Mark}
 use Rattle.sheets.specs.declared.list.Mark.TheVariants as mark
 
@@ -18,7 +19,7 @@ called_by (text.sample f v) = Some (calls.sample f v)
 called_by text.collect = Some calls.collect
 called_by (text.message link) = None
 
-abbrev pub made_of : Option Call → Option calls.Call
+abbrev pub made_of : Option (Call (Vec ℕ Global)) → Option calls.Call
 made_of None = None
 made_of (Some c) = Some (call_of c)
 

@@ -1,5 +1,5 @@
 -- Numbers that answers gave and that have no final report.
-use Rattle.std.specs.Prelude.{ℕ, Bool, List, ◌++◌, sum_by, count_by, ◌==◌}
+use Rattle.std.specs.Prelude.{ℕ, Bool, not, List, ◌++◌, sum_by, count_by, ◌==◌}
 use Rattle.machine.specs.Calls.{Told}
 use Rattle.machine.specs.Balance.{finals_of}
 use Rattle.machine.specs.Parts.{Answer}
@@ -13,6 +13,9 @@ is_open reports n = finals_of n reports == 0
 
 abbrev pub open_by : List Report → Answer Told → ℕ
 open_by reports a = count_by (is_open reports) (numbers_in a.outcome)
+
+abbrev pub gives_open : List Report → Answer Told → Bool
+gives_open reports a = not (open_by reports a == 0)
 
 -- the numbers that answers gave, without a final report among theirs and the rest's
 abbrev pub pending_of : List (Answer Told) → List (Answer Told) → ℕ

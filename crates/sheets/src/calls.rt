@@ -11,13 +11,7 @@ pub fn call_of(line: Line) -> Option<Call>
     ensures as_the_line_says { made_of result ≡ called_by (said_by line) }
 {
     match line {
-        Line::Submit { packet } => Some(Call::Submit { packet }),
-        Line::Deliver { link, bytes } => Some(Call::Deliver { link, bytes }),
-        Line::Tick => Some(Call::Tick),
-        Line::Sample { function, value } => Some(Call::Sample { function, value }),
-        Line::Collect => Some(Call::Collect),
-        Line::Skipped => None,
-        Line::Unreadable => None,
-        Line::Message { .. } => None,
+        Line::Call(call) => Some(call),
+        Line::Skipped | Line::Unreadable | Line::Message { .. } => None,
     }
 }

@@ -17,7 +17,7 @@ fn mark_of(line: &Line) -> Option<Mark>
         Line::Skipped => None,
         Line::Unreadable => Some(Mark::Unreadable),
         Line::Message { .. } => Some(Mark::Question),
-        _ => Some(Mark::Call),
+        Line::Call(_) => Some(Mark::Call),
     }
 }
 

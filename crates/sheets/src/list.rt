@@ -11,6 +11,7 @@ pub enum Mark {
 }
 
 /// The calls in order, and a mark for each counted line.
+// Kept: two lists, since a shift is worked from a slice of calls; a mark stands for its call.
 #[derive(Drop)]
 pub struct CallList {
     pub calls: Vec<Call>,

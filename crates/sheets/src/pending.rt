@@ -1,11 +1,11 @@
 // The accepted numbers that are pending at the end of a shift.
-ghost use Rattle.std.specs.Prelude.{◌≡◌, ◌≤◌, ◌++◌, map};
+ghost use Rattle.std.specs.Prelude.{◌≡◌, ◌++◌, map};
 ghost use Rattle.console.specs.Consoles.{answer_of};
 ghost use Rattle.machine.specs.Balance.{View, pending_in};
 ghost use Rattle.machine.specs.Laws.{handings};
 ghost use Rattle.machine.specs.Runs.{History};
 ghost use Rattle.sheets.specs.Histories.{answers_in, reports_of};
-ghost use Rattle.sheets.specs.Pending.{is_open, open_by, pending_of};
+ghost use Rattle.sheets.specs.Pending.{is_open, gives_open, pending_of};
 
 use crate::finals::final_report;
 use console::call::Answer;
@@ -17,14 +17,13 @@ fn is_pending(answers: &[Answer], rest: &[Answer], number: u32) -> bool
     final_report(answers, number).is_none() && final_report(rest, number).is_none()
 }
 
-/// How many pending numbers an answer gave.
-fn pending_by(answer: &Answer, answers: &[Answer], rest: &[Answer]) -> u128
-    ensures given_and_pending { result ≡ open_by (reports_of (map answer_of answers.now) ++ reports_of (map answer_of rest.now)) (answer_of answer.now) }
-    ensures one_at_most { result ≤ 1 }
+/// Whether an answer gave a pending number.
+fn gives_pending(answer: &Answer, answers: &[Answer], rest: &[Answer]) -> bool
+    ensures given_and_pending { result ≡ gives_open (reports_of (map answer_of answers.now) ++ reports_of (map answer_of rest.now)) (answer_of answer.now) }
 {
     match answer.outcome {
-        Outcome::Submitted { answer: Ok(number) } if is_pending(answers, rest, number) => 1,
-        _ => 0,
+        Outcome::Submitted { answer: Ok(number) } => is_pending(answers, rest, number),
+        _ => false,
     }
 }
 
@@ -33,9 +32,8 @@ pub fn pending(answers: &[Answer], rest: &[Answer]) -> u128
     ensures of_the_answers { result ≡ pending_of (map answer_of answers.now) (map answer_of rest.now) }
     ensures of_their_history { (h : History) (v : View) → answers_in h ≡ map answer_of answers.now → map answer_of rest.now ≡ handings v.events v.reports → result ≡ pending_in h v }
 {
-    let mut count = 0;
-    for answer in answers {
-        count += pending_by(answer, answers, rest);
-    }
-    count
+    answers
+        .iter()
+        .filter(|answer| gives_pending(answer, answers, rest))
+        .count() as u128
 }

@@ -15,10 +15,7 @@ use watches::watch::Watch;
 fn hands_nothing(answer: &Answer) -> bool
     ensures of_a_collect { result ≡ hands_nothing (told_of answer.now.outcome) }
 {
-    match answer.outcome {
-        Outcome::Collected { handed: None } => true,
-        _ => false,
-    }
+    matches!(answer.outcome, Outcome::Collected { handed: None })
 }
 
 /// Collects until nothing is handed out.

@@ -6,19 +6,16 @@ ghost use Rattle.sheets.specs.Finals.{row_of};
 ghost use Rattle.sheets.specs.Histories.{answers_in};
 
 use crate::finals::final_report;
-use crate::row::Row;
+use crate::row::Accepted;
 use console::call::Answer;
 use records::refusal::Refusal;
 
-/// By the answer to the submit, and the answers of the shift.
-pub fn row_of(answers: &[Answer], submitted: Result<u32, Refusal>) -> Row
+/// By the answer to the submit, and the answers of the shift; a refused submit has no report to wait for.
+pub fn row_of(answers: &[Answer], submitted: Result<u32, Refusal>) -> Result<Accepted, Refusal>
     ensures ticked_by_the_collected_reports { (h : History) → answers_in h ≡ map answer_of answers.now → result ≡ row_of (reverse (collected_in h)) submitted }
 {
-    match submitted {
-        Ok(number) => Row::Accepted {
-            number,
-            report: final_report(answers, number),
-        },
-        Err(refusal) => Row::Refused { refusal },
-    }
+    submitted.map(|number| Accepted {
+        number,
+        report: final_report(answers, number),
+    })
 }

@@ -9,32 +9,23 @@ use crate::tally::Tally;
 use console::call::Answer;
 use machine::answers::{Handed, Outcome};
 use records::report::Stage;
-
-const NONE: Tally = Tally {
-    accepted: 0,
-    done: 0,
-    failed: 0,
-    sent: 0,
-    raised: 0,
-    collected: 0,
-    lost: 0,
-};
+use std::ops::Add;
 
 fn stage_tally(stage: Stage) -> Tally
     ensures of_one_report { result ≡ stage_tally stage }
     ensures in_32_bits { Within result 4294967295 }
 {
     match stage {
-        Stage::Started => NONE,
+        Stage::Started => Tally::default(),
         Stage::Done { sent } => Tally {
             done: 1,
             sent: u128::from(sent),
-            ..NONE
+            ..Tally::default()
         },
         Stage::Failed { sent, .. } => Tally {
             failed: 1,
             sent: u128::from(sent),
-            ..NONE
+            ..Tally::default()
         },
     }
 }
@@ -46,18 +37,18 @@ fn answer_tally(answer: &Answer) -> Tally
     let counted = match answer.outcome {
         Outcome::Submitted { answer: Ok(_) } => Tally {
             accepted: 1,
-            ..NONE
+            ..Tally::default()
         },
         Outcome::Collected {
             handed: Some(Handed::Event { .. }),
         } => Tally {
             collected: 1,
-            ..NONE
+            ..Tally::default()
         },
         Outcome::Collected {
             handed: Some(Handed::Report { report }),
         } => stage_tally(report.stage),
-        _ => NONE,
+        _ => Tally::default(),
     };
     Tally {
         raised: u128::from(answer.raised),
@@ -66,18 +57,23 @@ fn answer_tally(answer: &Answer) -> Tally
     }
 }
 
-pub(crate) fn both(one: Tally, other: Tally) -> Tally
-    requires { (Within one (2 ^ 126)) × (Within other (2 ^ 126)) }
-    ensures each_sum { result ≡ both_tallies one other }
-{
-    Tally {
-        accepted: one.accepted + other.accepted,
-        done: one.done + other.done,
-        failed: one.failed + other.failed,
-        sent: one.sent + other.sent,
-        raised: one.raised + other.raised,
-        collected: one.collected + other.collected,
-        lost: one.lost + other.lost,
+impl Add for Tally {
+    type Output = Tally;
+
+    ghost can_add = { λ one other. Within one (2 ^ 126) × Within other (2 ^ 126) };
+
+    ghost add_gives = { λ one other sum. sum ≡ both_tallies one other };
+
+    fn add(self, other: Tally) -> Tally {
+        Tally {
+            accepted: self.accepted + other.accepted,
+            done: self.done + other.done,
+            failed: self.failed + other.failed,
+            sent: self.sent + other.sent,
+            raised: self.raised + other.raised,
+            collected: self.collected + other.collected,
+            lost: self.lost + other.lost,
+        }
     }
 }
 
@@ -87,9 +83,10 @@ pub fn tally(answers: &[Answer]) -> Tally
     ensures of_their_history { (h : History) → answers_in h ≡ map answer_of answers.now → Tallied result h }
     ensures bounded { Within result (length answers.now * 4294967295) }
 {
-    let mut sum = NONE;
+    // Kept: the bound on the sums grows with the place of the answer, which a fold's closure does not know.
+    let mut sum = Tally::default();
     for answer in answers {
-        sum = both(sum, answer_tally(answer));
+        sum = sum + answer_tally(answer);
     }
     sum
 }

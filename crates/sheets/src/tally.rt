@@ -1,7 +1,7 @@
 // What the answers of a shift add up to. No list of answers is long enough to overflow 128 bits.
 
 /// The sums over some answers.
-#[derive(Clone, Copy)]
+#[derive(Clone, Copy, Default)]
 pub struct Tally {
     pub accepted: u128,
     pub done: u128,

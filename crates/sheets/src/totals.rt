@@ -8,7 +8,7 @@ ghost use Rattle.sheets.specs.Histories.{answers_in};
 ghost use Rattle.sheets.specs.Totals.{totals_of, Totalled, adds_up};
 
 use crate::pending::pending;
-use crate::tallies::{both, tally};
+use crate::tallies::tally;
 use crate::tally::Totals;
 use console::call::Answer;
 
@@ -19,7 +19,7 @@ pub fn totals(answers: &[Answer], rest: &[Answer]) -> Totals
 {
     let during = tally(answers);
     let after = tally(rest);
-    let all = both(during, after);
+    let all = during + after;
     Totals {
         accepted: during.accepted,
         done: all.done,
@@ -36,13 +36,7 @@ pub fn totals(answers: &[Answer], rest: &[Answer]) -> Totals
 fn is_sum(whole: u128, one: u128, two: u128, three: u128) -> bool
     ensures of_three_parts { result ≡ (whole == one + two + three) }
 {
-    let Some(sum) = one.checked_add(two) else {
-        return false;
-    };
-    let Some(sum) = sum.checked_add(three) else {
-        return false;
-    };
-    whole == sum
+    one.checked_add(two).and_then(|sum| sum.checked_add(three)) == Some(whole)
 }
 
 impl Totals {
