@@ -1,18 +1,24 @@
 -- Steps and settings taken one after the other.
-use Rattle.std.proofs.Common.{◌≡◌, ℕ, ◌+◌, ◌-◌, ◌<◌, Bool, true, false, cond, ◌&&◌, leb, List, [], ◌∷◌, ◌++◌, map, length, get_or, take, drop, set, min, replicate, is_some, Some, None, Ok, Err, Result, sym, refl, ap, ◌∙◌, append_assoc, arith}
-use Rattle.std.proofs.lemmas.Bool.{eq-eqb}
-use Rattle.std.proofs.lemmas.List.{length-map, length-take, drop_min, drop_more, set_at, map_more}
+use Rattle.std.proofs.Common.{◌≡◌, ℕ, ◌+◌, ◌-◌, ◌<◌, ◌≤◌, Bool, true, false, cond, ◌&&◌, leb, List, [], ◌∷◌, ◌++◌, map, length, get_or, drop, set, min, replicate, is_some, not, ltb, suc, Some, None, Option, Ok, Err, Result, sym, refl, ⊎_elim, ap, ◌∙◌, arith}
+use Rattle.std.specs.List.{position, position_or_len, range_with_len}
+use Rattle.std.proofs.lemmas.Bool.{eq-eqb, cases_lt}
+use Rattle.std.proofs.lemmas.Bool.Decides.{nat_tests}
+use Rattle.std.proofs.lemmas.List.{length-append, length-map, length-replicate, drop_min, drop-replicate, get_or_append_left, get_or-append_right, get_or-map, get_or-replicate}
+use Rattle.std.proofs.lemmas.List.FromFn.{fill_by_all}
+use Rattle.std.proofs.lemmas.Option.{slice_get-get_or, slice_get_past}
+use Rattle.std.specs.Option.{option_and_then}
+use Rattle.telecommands.specs.Fields.{blank_step}
+use Rattle.records.specs.declared.fault.Fault.{Fault}
+use Rattle.records.specs.declared.fault.FaultKind.TheVariants.{InvalidStep}
+use Rattle.records.specs.Faults.{fault_of}
 use Rattle.records.specs.declared.step.Step.{Step}
 use Rattle.telecommands.specs.declared.packet.Setting.{Setting}
 use Rattle.machine.specs.declared.state.Action.{Action}
 use Rattle.machine.specs.declared.state.Action.TheVariants.{Wait}
 use Rattle.machine.specs.declared.state.Procedure.{Procedure}
 use Rattle.machine.specs.Procedures.{action_of, action_in, first_bad, steps_in, loaded_with, written_to}
-use Rattle.procedures.specs.Judging.{actions_from, judged_steps}
+use Rattle.procedures.specs.Judging.{action_at, actions_from, judged_steps}
 use Rattle.telecommands.specs.Fields.{Steps}
-
-abbrev pub blank_step : Step
-blank_step = record { op = 0; b = 0; w = 0; u = 0; v = 0 }
 
 pub bad_none : (width nop k : ℕ) → first_bad width nop k [] ≡ 0
 unfolding first_bad
@@ -46,28 +52,76 @@ unfolding written_to
 written_on nop xs s settings e =
     ap (λ (b : Bool). cond b (written_to nop (set xs (s.id - 1) s.value) settings) (record { parameters = xs; illegal = Some s.id })) e
 
--- the actions of the first steps, with the next one's written behind them
-pub actions_more : (f : Step → Action) (steps : List Step) (places : List Action) (k : ℕ) (a : Action) → k < length steps → k < length places → f (get_or steps k blank_step) ≡ a
-    → set (map f (take k steps) ++ drop k places) k a ≡ map f (take (k + 1) steps) ++ drop (k + 1) places
-actions_more f steps places k a h j e =
-    let front = map f (take k steps) in
-    let rest = drop (k + 1) places in
-    let short : length front ≡ k = length-map (take k steps) f ∙ omega (arith, length-take k steps) in
-    ap (λ (l : List Action). set (front ++ l) k a) (drop_more places k a j)
-    ∙ set_at front (get_or places k a) rest a k short
-    ∙ sym (append_assoc front (a ∷ []) rest)
-    ∙ ap (λ (l : List Action). l ++ rest) (ap (λ (x : Action). front ++ x ∷ []) (sym e) ∙ sym (map_more f steps k blank_step h))
+-- the number of the step at a place, where the first has this number; 0 where there is none
+abbrev pub number_at : ℕ → Option ℕ → ℕ
+number_at first None = 0
+number_at first (Some place) = first + place
+
+-- one more step before those that were judged
+judged_on : (good : Bool) (k place count rest : ℕ) → rest ≡ number_at (k + 1) (cond (ltb place count) (Some place) None)
+    → cond good rest k ≡ number_at k (cond (ltb (cond (not (not good)) (1 + place) 0) (suc count)) (Some (cond (not (not good)) (1 + place) 0)) None)
+judged_on true k place count rest e = grind (arith, nat_tests)
+judged_on false k place count rest e = grind (arith, nat_tests)
+
+-- the first bad step has the number of its place
+pub bad_at : (width nop k : ℕ) (steps : List Step)
+    → first_bad width nop k steps ≡ number_at k (position (λ step. not (is_some (action_of width nop step))) steps)
+unfolding first_bad
+bad_at width nop k [] = refl
+bad_at width nop k (s ∷ steps) =
+    judged_on (is_some (action_of width nop s)) k (position_or_len (λ step. not (is_some (action_of width nop step))) steps) (length steps) (first_bad width nop (k + 1) steps)
+    (bad_at width nop (k + 1) steps)
+
+-- the place of the first bad step, as a search finds it
+abbrev pub bad_place : ℕ → ℕ → List Step → Option ℕ
+bad_place width nop steps = position (λ step. not (is_some (action_of width nop step))) steps
+
+pub place_within : (width nop : ℕ) (steps : List Step) (place : ℕ) → Some place ≡ bad_place width nop steps → place < length steps
+place_within width nop steps place e = grind (arith, nat_tests)
+
+-- a bad step was found at a place, or none was
+pub bad_found : (width nop : ℕ) (s : Steps) (steps : List Step) (place : ℕ) → steps ≡ steps_in s → Some place ≡ bad_place width nop steps
+    → ◌≡◌ {A = Result Procedure Fault} (Err (fault_of InvalidStep (place + 1))) (judged_steps width nop s)
+bad_found width nop s steps place same e =
+    let number : first_bad width nop 1 (steps_in s) ≡ 1 + place =
+    ap (first_bad width nop 1) (sym same) ∙ bad_at width nop 1 steps ∙ sym (ap (number_at 1) e) in
+    grind (arith, nat_tests)
+
+pub none_found : (width nop : ℕ) (s : Steps) (steps : List Step) → steps ≡ steps_in s → None ≡ bad_place width nop steps → first_bad width nop 1 (steps_in s) ≡ 0
+none_found width nop s steps same e = ap (first_bad width nop 1) (sym same) ∙ bad_at width nop 1 steps ∙ sym (ap (number_at 1) e)
+
+-- what calls at each place gave, for steps that have room
+pub for_each_step : (width nop : ℕ) (steps : List Step) (room : ℕ) → length steps ≤ room
+    → map (action_at width nop steps) (range_with_len 0 room) ≡ actions_from width nop steps (replicate room (Wait 0))
+for_each_step width nop steps room few =
+    let f = λ (step : Step). action_in (action_of width nop step) in
+    let front = map f steps in
+    let rest = replicate (room - length steps) (Wait 0) in
+    let long : length front ≡ length steps = length-map steps f in
+    let whole : length (front ++ rest) ≡ room = length-append front rest ∙ omega (arith, long, length-replicate (room - length steps) (Wait 0)) in
+    let at : (k : ℕ) → k < room → get_or (front ++ rest) k (Wait 0) ≡ action_at width nop steps k =
+    λ k h. ⊎_elim
+    (λ (within : k < length steps).
+    get_or_append_left front rest (Wait 0) k (omega (arith, long))
+    ∙ get_or-map f steps k blank_step (Wait 0) within
+    ∙ ap (λ (step : Option Step). action_in (option_and_then (action_of width nop) step)) (sym (slice_get-get_or steps k blank_step within)))
+    (λ (past : length steps ≤ k).
+    get_or-append_right front rest (length steps) k (Wait 0) long past
+    ∙ get_or-replicate (room - length steps) (k - length steps) (Wait 0) (Wait 0) (omega arith)
+    ∙ ap (λ (step : Option Step). action_in (option_and_then (action_of width nop) step)) (sym (slice_get_past steps k past)))
+    (cases_lt k (length steps)) in
+    sym (ap (λ (l : List Action). front ++ l) (drop-replicate (length steps) room (Wait 0))
+    ∙ fill_by_all (action_at width nop steps) (front ++ rest) room (Wait 0) whole at)
 
 -- steps that are all good make the procedure that the rule says
-pub all_good : (width nop : ℕ) (s : Steps) (actions : List Action) → length s.items ≡ 28 → first_bad width nop 1 (steps_in s) ≡ 0
+pub all_good : (width nop : ℕ) (s : Steps) (actions : List Action) → length (steps_in s) ≡ min s.count 28 → first_bad width nop 1 (steps_in s) ≡ 0
     → actions ≡ actions_from width nop (steps_in s) (replicate 28 (Wait 0))
-    → ◌≡◌ {A = Result Procedure ℕ} (Ok (record { nop = nop; parameters = replicate 25 0; actions = actions; count = s.count })) (judged_steps width nop s)
-all_good width nop s actions places good is =
+    → ◌≡◌ {A = Result Procedure Fault} (Ok (record { nop = nop; parameters = replicate 25 0; actions = record { items = actions; count = s.count } })) (judged_steps width nop s)
+all_good width nop s actions short good is =
     let blank = replicate 28 (Wait 0) in
     let bad = first_bad width nop 1 (steps_in s) in
-    let short : length (steps_in s) ≡ min s.count 28 = length-take s.count s.items ∙ ap (min s.count) places in
     let rest : drop (length (steps_in s)) blank ≡ drop s.count blank = ap (λ (k : ℕ). drop k blank) short ∙ drop_min s.count blank in
     let f = λ (step : Step). action_in (action_of width nop step) in
     let same : actions ≡ map f (steps_in s) ++ drop s.count blank = is ∙ ap (λ (l : List Action). map f (steps_in s) ++ l) rest in
-    ap (λ (l : List Action). Ok (record { nop = nop; parameters = replicate 25 0; actions = l; count = s.count })) same
-    ∙ sym (ap (λ (b : Bool). cond b (Ok (loaded_with width nop s)) (Err bad)) (eq-eqb bad 0 good))
+    ap (λ (l : List Action). Ok (record { nop = nop; parameters = replicate 25 0; actions = record { items = l; count = s.count } })) same
+    ∙ sym (ap (λ (b : Bool). cond b (Ok (loaded_with width nop s)) (Err (fault_of InvalidStep bad))) (eq-eqb bad 0 good))

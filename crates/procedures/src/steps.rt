@@ -1,83 +1,87 @@
 // The steps of a procedure, judged when it is loaded.
-ghost use Rattle.std.specs.Prelude.{◌≡◌, ◌≤◌, length};
-ghost use Rattle.machine.specs.Procedures.{action_of, action_in, first_bad};
-ghost use Rattle.procedures.specs.Judging.{actions_from, judged_steps};
+ghost use Rattle.std.specs.Prelude.{◌≡◌, ◌≤◌, not, length, replicate, is_some};
+ghost use Rattle.std.specs.List.{position};
+ghost use Rattle.machine.specs.Procedures.{action_of};
+ghost use Rattle.machine.specs.declared.state.Action.TheVariants.{Wait};
+ghost use Rattle.procedures.specs.Judging.{action_at, actions_from, judged_steps};
 
-use desks::items::first;
 use machine::state::{Action, Procedure};
-use records::step::Step;
+use records::fault::{Fault, FaultKind};
+use records::fixed_list::FixedList;
+use records::step::{Operation, Step};
+use std::array;
 use telecommands::packet::Steps;
 use watches::watch::has_function;
 
-/// What a step does, if it is good.
-fn action_of(width: u32, nop: u16, step: Step) -> Option<Action>
-    ensures by_its_operation { result ≡ action_of width nop step }
-{
-    let Step { op, b, w, u, v } = step;
-    match op {
-        1 if b <= 2 && v <= nop => Some(Action::Send {
-            link: b,
-            id: w,
-            sid: u,
-            parameter: v,
-        }),
-        2 if b == 0 && u == 0 && v == 0 => Some(Action::Wait { ticks: w }),
-        3 if has_function(width, u32::from(b)) && w == 0 && u == 0 && v == 0 => Some(
-            Action::Expect { function: b },
-        ),
-        _ => None,
-    }
+/// What the steps of a procedure may name: the functions of a watch of this width, and so many parameters.
+#[derive(Clone, Copy)]
+struct Limits {
+    width: u32,
+    nop: u16,
 }
 
-/// The number of the first bad step, from 1; 0 where all are good.
-fn first_bad(width: u32, nop: u16, steps: &[Step]) -> usize
-    ensures counted_from_1 { result ≡ first_bad width nop 1 steps.now }
-    ensures one_of_them { result ≤ length steps.now }
-{
-    for at in 0..steps.len() {
-        if action_of(width, nop, steps[at]).is_none() {
-            return at + 1;
+impl Limits {
+    /// What a step does, if it is good.
+    fn action(&self, step: &Step) -> Option<Action>
+        ensures by_its_operation { result ≡ action_of self.now.width self.now.nop step.now }
+    {
+        let Step { b, w, u, v, .. } = *step;
+        match step.operation()? {
+            Operation::Send if b <= 2 && v <= self.nop => Some(Action::Send {
+                link: b,
+                id: w,
+                sid: u,
+                parameter: v,
+            }),
+            Operation::Wait if b == 0 && u == 0 && v == 0 => Some(Action::Wait { ticks: w }),
+            Operation::Expect
+                if has_function(self.width, u32::from(b)) && w == 0 && u == 0 && v == 0 => {
+                Some(Action::Expect { function: b })
+            }
+            _ => None,
         }
     }
-    0
-}
 
-/// What a good step does; a bad one would be a wait.
-fn action_or_wait(width: u32, nop: u16, step: Step) -> Action
-    ensures of_a_good_step { result ≡ action_in (action_of width nop step) }
-{
-    match action_of(width, nop, step) {
-        Some(action) => action,
-        None => Action::Wait { ticks: 0 },
+    /// The place of the first bad step.
+    fn first_bad(&self, steps: &[Step]) -> Option<usize>
+        ensures first_without_an_action { result ≡ position (λ step. not (is_some (action_of self.now.width self.now.nop step))) steps.now }
+    {
+        steps.iter().position(|step| self.action(step).is_none())
+    }
+
+    /// What the step at a place does, if there is one and it is good; else it would be a wait.
+    fn action_at(&self, steps: &[Step], place: usize) -> Action
+        ensures of_a_good_step { result ≡ action_at self.now.width self.now.nop steps.now place }
+    {
+        steps
+            .get(place)
+            .and_then(|step| self.action(step))
+            .unwrap_or(Action::Wait { ticks: 0 })
+    }
+
+    /// What each step does; the places behind them wait for no tick.
+    fn actions(&self, steps: &[Step]) -> [Action; 28]
+        requires { length steps.now ≤ 28 }
+        ensures one_for_each_step { result ≡ actions_from self.now.width self.now.nop steps.now (replicate 28 (Wait 0)) }
+    {
+        array::from_fn(|place| self.action_at(steps, place))
     }
 }
 
-/// Writes what each step does to the first places, and leaves the others.
-fn write_actions(width: u32, nop: u16, steps: &[Step], actions: &mut [Action])
-    requires { length steps.now ≤ length actions.old }
-    ensures first_places { actions.new ≡ actions_from width nop steps.now actions.old }
-{
-    for at in 0..steps.len() {
-        actions[at] = action_or_wait(width, nop, steps[at]);
-    }
-}
-
-/// The procedure that good steps make; an error is the number of the first bad one.
-pub fn procedure_of(width: u32, nop: u16, steps: &Steps) -> Result<Procedure, u32>
+/// The procedure that good steps make, or a fault with the number of the first bad one.
+pub fn procedure_of(width: u32, nop: u16, steps: &Steps) -> Result<Procedure, Fault>
     ensures all_good_or_the_first_bad { result ≡ judged_steps width nop steps.now }
 {
+    let limits = Limits { width, nop };
     let count = steps.count;
-    let steps = first(&steps.items, count);
-    let bad = first_bad(width, nop, steps);
-    if bad != 0 {
-        return Err(bad as u32);
+    let steps = steps.as_slice();
+    if let Some(place) = limits.first_bad(steps) {
+        return Err(FaultKind::InvalidStep.fault(place as u32 + 1));
     }
-    let mut actions = [Action::Wait { ticks: 0 }; 28];
-    write_actions(width, nop, steps, &mut actions);
+    let items = limits.actions(steps);
     Ok(Procedure {
         nop,
         parameters: [0; 25],
-        actions,
-        count,
+        actions: FixedList { items, count },
     })
 }

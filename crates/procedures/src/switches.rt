@@ -3,13 +3,23 @@ ghost use Rattle.std.specs.Prelude.{◌≡◌};
 ghost use Rattle.desks.specs.Desked.{desk_of};
 ghost use Rattle.desks.specs.Logs.{fault_in};
 ghost use Rattle.machine.specs.Procedures.{Outcome, setting};
-ghost use Rattle.procedures.specs.Judging.{setting_status, setting_switch};
+ghost use Rattle.procedures.specs.Judging.{switched, setting_status, setting_switch};
 
 use desks::desk::Desk;
-use desks::items::set_item;
 use machine::state::LinkStatus;
 use records::fault::{Fault, FaultKind};
 use watches::watch::has_function;
+
+/// 1 is on and 0 is off.
+fn is_on(value: u32) -> Result<bool, Fault>
+    ensures one_or_zero { result ≡ switched value }
+{
+    match value {
+        0 => Ok(false),
+        1 => Ok(true),
+        _ => Err(FaultKind::InvalidParameter.fault(value)),
+    }
+}
 
 fn set_status(desk: &mut Desk, sid: u16, value: u32) -> Result<(), Fault>
     ensures on_or_off { ◌≡◌ {A = Outcome} (record { desk = desk_of desk.new; fault = fault_in result }) (setting_status (desk_of desk.old) sid value) }
@@ -17,17 +27,12 @@ fn set_status(desk: &mut Desk, sid: u16, value: u32) -> Result<(), Fault>
     if sid > 2 {
         return Err(FaultKind::InvalidSid.fault(u32::from(sid)));
     }
-    if value > 1 {
-        return Err(FaultKind::InvalidParameter.fault(value));
-    }
-    desk.set_status(
-        sid,
-        if value == 1 {
-            LinkStatus::On
-        } else {
-            LinkStatus::Off
-        },
-    );
+    let status = if is_on(value)? {
+        LinkStatus::On
+    } else {
+        LinkStatus::Off
+    };
+    desk.set_status(sid, status);
     Ok(())
 }
 
@@ -37,10 +42,11 @@ fn set_switch(desk: &mut Desk, width: u32, sid: u16, value: u32) -> Result<(), F
     if !has_function(width, u32::from(sid)) {
         return Err(FaultKind::InvalidWatched.fault(u32::from(sid)));
     }
-    if value > 1 {
-        return Err(FaultKind::InvalidParameter.fault(value));
+    let on = is_on(value)?;
+    let place = usize::from(sid) - 1;
+    if place < desk.switches.len() {
+        desk.switches[place] = on;
     }
-    set_item(&mut desk.switches, usize::from(sid) - 1, value == 1);
     Ok(())
 }
 

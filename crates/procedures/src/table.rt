@@ -1,15 +1,14 @@
 // The table of procedures: loading, deleting, parameters and the judging of a start.
-ghost use Rattle.std.specs.Prelude.{◌≡◌};
+ghost use Rattle.std.specs.Prelude.{◌≡◌, cond};
 ghost use Rattle.desks.specs.Desked.{desk_of};
 ghost use Rattle.desks.specs.Logs.{fault_in};
 ghost use Rattle.machine.specs.Desks.{with_procedure};
 ghost use Rattle.machine.specs.Procedures.{Outcome, is_procedure, loading, deleting, writing, setting_parameters, starting};
-ghost use Rattle.procedures.specs.Judging.{fitted};
+ghost use Rattle.procedures.specs.Judging.{fitted, judged_id, loaded};
 
 use crate::settings::write_in_turn;
 use crate::steps::procedure_of;
 use desks::desk::Desk;
-use desks::items::{first, item, set_item};
 use machine::state::Procedure;
 use records::fault::{Fault, FaultKind};
 use telecommands::packet::{Settings, Steps};
@@ -17,52 +16,56 @@ use telecommands::packet::{Settings, Steps};
 /// The largest count that a fault can name; a packet's is far below.
 const MOST_COUNTED: usize = 0xFFFF_FFFF;
 
-fn is_procedure(id: u16) -> bool
-    ensures from_1_to_16 { result ≡ is_procedure id }
+fn judge_id(id: u16) -> Result<(), Fault>
+    ensures from_1_to_16 { fault_in result ≡ judged_id id }
 {
-    1 <= id && id <= 16
+    match id {
+        1..=16 => Ok(()),
+        _ => Err(FaultKind::InvalidProcedure.fault(u32::from(id))),
+    }
+}
+
+/// The procedure of an ID, if it is loaded.
+fn loaded(desk: &Desk, id: u16) -> Result<Procedure, Fault>
+    ensures of_an_id_with_one { result ≡ loaded (desk_of desk.now) id }
+{
+    judge_id(id)?;
+    desk.procedures
+        .get(usize::from(id) - 1)
+        .copied()
+        .flatten()
+        .ok_or(FaultKind::EmptyProcedure.fault(u32::from(id)))
 }
 
 fn set_procedure(desk: &mut Desk, id: u16, procedure: Option<Procedure>)
     ensures only_this_one { desk_of desk.new ≡ with_procedure (desk_of desk.old) id procedure }
 {
-    set_item(
-        &mut desk.procedures,
-        usize::from(id.saturating_sub(1)),
-        procedure,
-    );
+    let place = usize::from(id.saturating_sub(1));
+    let procedures = &mut desk.procedures[..];
+    if place < procedures.len() {
+        procedures[place] = procedure;
+    }
 }
 
 pub fn load(desk: &mut Desk, width: u32, id: u16, nop: u16, steps: &Steps) -> Result<(), Fault>
     ensures loaded_or_fault { ◌≡◌ {A = Outcome} (record { desk = desk_of desk.new; fault = fault_in result }) (loading width (desk_of desk.old) id nop steps.now) }
 {
-    if !is_procedure(id) {
-        return Err(FaultKind::InvalidProcedure.fault(u32::from(id)));
-    }
+    judge_id(id)?;
     if desk.runs(id) {
         return Err(FaultKind::IllegalLoad.fault(u32::from(id)));
     }
     if nop > 25 {
         return Err(FaultKind::TooManyParameters.fault(u32::from(nop)));
     }
-    match procedure_of(width, nop, steps) {
-        Ok(procedure) => {
-            set_procedure(desk, id, Some(procedure));
-            Ok(())
-        }
-        Err(bad) => Err(FaultKind::InvalidStep.fault(bad)),
-    }
+    let procedure = procedure_of(width, nop, steps)?;
+    set_procedure(desk, id, Some(procedure));
+    Ok(())
 }
 
 pub fn delete(desk: &mut Desk, id: u16) -> Result<(), Fault>
     ensures emptied_or_fault { ◌≡◌ {A = Outcome} (record { desk = desk_of desk.new; fault = fault_in result }) (deleting (desk_of desk.old) id) }
 {
-    if !is_procedure(id) {
-        return Err(FaultKind::InvalidProcedure.fault(u32::from(id)));
-    }
-    if item(&desk.procedures, usize::from(id) - 1, None).is_none() {
-        return Err(FaultKind::EmptyProcedure.fault(u32::from(id)));
-    }
+    loaded(desk, id)?;
     if desk.runs(id) {
         return Err(FaultKind::RunningProcedure.fault(u32::from(id)));
     }
@@ -84,39 +87,25 @@ fn write(
     if count > usize::from(nop) {
         return Err(FaultKind::TooManyParameters.fault(count as u32));
     }
-    let settings = first(&settings.items, count);
-    let illegal = write_in_turn(&mut procedure.parameters, nop, settings);
+    let written = write_in_turn(&mut procedure.parameters, nop, settings.as_slice());
     set_procedure(desk, id, Some(procedure));
-    match illegal {
-        Some(id) => Err(FaultKind::IllegalParameterId.fault(u32::from(id))),
-        None => Ok(()),
-    }
+    written
 }
 
 pub fn set_parameters(desk: &mut Desk, id: u16, settings: &Settings) -> Result<(), Fault>
     ensures written_or_fault { ◌≡◌ {A = Outcome} (record { desk = desk_of desk.new; fault = fault_in result }) (setting_parameters (desk_of desk.old) id (fitted settings.now)) }
 {
-    if !is_procedure(id) {
-        return Err(FaultKind::InvalidProcedure.fault(u32::from(id)));
-    }
-    match item(&desk.procedures, usize::from(id) - 1, None) {
-        Some(procedure) => write(desk, id, procedure, settings),
-        None => Err(FaultKind::EmptyProcedure.fault(u32::from(id))),
-    }
+    let procedure = loaded(desk, id)?;
+    write(desk, id, procedure, settings)
 }
 
 /// Judges a start and writes its parameters; the run itself begins elsewhere.
 pub fn prepare(desk: &mut Desk, id: u16, settings: &Settings) -> Result<(), Fault>
     ensures written_or_fault { ◌≡◌ {A = Outcome} (record { desk = desk_of desk.new; fault = fault_in result }) (starting (desk_of desk.old) id (fitted settings.now)) }
 {
-    if !is_procedure(id) {
-        return Err(FaultKind::InvalidProcedure.fault(u32::from(id)));
+    let procedure = loaded(desk, id)?;
+    if let Some(run) = desk.run {
+        return Err(FaultKind::RunningProcedure.fault(u32::from(run.id)));
     }
-    let Some(procedure) = item(&desk.procedures, usize::from(id) - 1, None) else {
-        return Err(FaultKind::EmptyProcedure.fault(u32::from(id)));
-    };
-    match desk.run {
-        Some(run) => Err(FaultKind::RunningProcedure.fault(u32::from(run.id))),
-        None => write(desk, id, procedure, settings),
-    }
+    write(desk, id, procedure, settings)
 }
