@@ -26,7 +26,7 @@ impl Band {
     fn holds(&self, value: u32) -> bool
         ensures limits_inside { result ≡ inside self.now value }
     {
-        self.lowest <= value && value <= self.highest
+        (self.lowest..=self.highest).contains(&value)
     }
 }
 

@@ -28,5 +28,5 @@ pub trait Watch {
 pub fn has_function(width: u32, function: u32) -> bool
     ensures from_1_to_the_width { result ≡ within width function }
 {
-    1 <= function && function <= width
+    (1..=width).contains(&function)
 }

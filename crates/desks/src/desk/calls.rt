@@ -104,7 +104,8 @@ impl Desk {
     fn steps(&self, id: u16) -> usize
         ensures of_the_procedure { result ≡ steps_of (procedure_at (desk_of self.now) id) }
     {
-        self.procedure(id).map_or(0, |procedure| procedure.actions.count)
+        self.procedure(id)
+            .map_or(0, |procedure| procedure.actions.count)
     }
 
     /// Ends the run with its final report.
