@@ -1,6 +1,5 @@
 // The table of procedures: loading, deleting, parameters and the judging of a start.
 ghost use Rattle.std.specs.Prelude.{◌≡◌};
-ghost use Rattle.desks.specs.Desked.{desk_of};
 ghost use Rattle.desks.specs.Logs.{fault_in};
 ghost use Rattle.machine.specs.Desks.{with_procedure};
 ghost use Rattle.machine.specs.Procedures.{Outcome, is_procedure, loading, deleting, writing, setting_parameters, starting};
@@ -24,7 +23,7 @@ fn is_procedure(id: u16) -> bool
 }
 
 fn set_procedure(desk: &mut Desk, id: u16, procedure: Option<Procedure>)
-    ensures only_this_one { desk_of desk.new ≡ with_procedure (desk_of desk.old) id procedure }
+    ensures only_this_one { desk.new ≡ with_procedure desk.old id procedure }
 {
     set_item(
         &mut desk.procedures,
@@ -34,7 +33,7 @@ fn set_procedure(desk: &mut Desk, id: u16, procedure: Option<Procedure>)
 }
 
 pub fn load(desk: &mut Desk, width: u32, id: u16, nop: u16, steps: &Steps) -> Result<(), Fault>
-    ensures loaded_or_fault { ◌≡◌ {A = Outcome} (record { desk = desk_of desk.new; fault = fault_in result }) (loading width (desk_of desk.old) id nop steps.now) }
+    ensures loaded_or_fault { ◌≡◌ {A = Outcome} (record { desk = desk.new; fault = fault_in result }) (loading width desk.old id nop steps.now) }
 {
     if !is_procedure(id) {
         return Err(FaultKind::InvalidProcedure.fault(u32::from(id)));
@@ -55,7 +54,7 @@ pub fn load(desk: &mut Desk, width: u32, id: u16, nop: u16, steps: &Steps) -> Re
 }
 
 pub fn delete(desk: &mut Desk, id: u16) -> Result<(), Fault>
-    ensures emptied_or_fault { ◌≡◌ {A = Outcome} (record { desk = desk_of desk.new; fault = fault_in result }) (deleting (desk_of desk.old) id) }
+    ensures emptied_or_fault { ◌≡◌ {A = Outcome} (record { desk = desk.new; fault = fault_in result }) (deleting desk.old id) }
 {
     if !is_procedure(id) {
         return Err(FaultKind::InvalidProcedure.fault(u32::from(id)));
@@ -77,7 +76,7 @@ fn write(
     mut procedure: Procedure,
     settings: &Settings,
 ) -> Result<(), Fault>
-    ensures written_or_fault { ◌≡◌ {A = Outcome} (record { desk = desk_of desk.new; fault = fault_in result }) (writing (desk_of desk.old) id procedure (fitted settings.now)) }
+    ensures written_or_fault { ◌≡◌ {A = Outcome} (record { desk = desk.new; fault = fault_in result }) (writing desk.old id procedure (fitted settings.now)) }
 {
     let nop = procedure.nop;
     let count = settings.count.min(MOST_COUNTED);
@@ -94,7 +93,7 @@ fn write(
 }
 
 pub fn set_parameters(desk: &mut Desk, id: u16, settings: &Settings) -> Result<(), Fault>
-    ensures written_or_fault { ◌≡◌ {A = Outcome} (record { desk = desk_of desk.new; fault = fault_in result }) (setting_parameters (desk_of desk.old) id (fitted settings.now)) }
+    ensures written_or_fault { ◌≡◌ {A = Outcome} (record { desk = desk.new; fault = fault_in result }) (setting_parameters desk.old id (fitted settings.now)) }
 {
     if !is_procedure(id) {
         return Err(FaultKind::InvalidProcedure.fault(u32::from(id)));
@@ -107,7 +106,7 @@ pub fn set_parameters(desk: &mut Desk, id: u16, settings: &Settings) -> Result<(
 
 /// Judges a start and writes its parameters; the run itself begins elsewhere.
 pub fn prepare(desk: &mut Desk, id: u16, settings: &Settings) -> Result<(), Fault>
-    ensures written_or_fault { ◌≡◌ {A = Outcome} (record { desk = desk_of desk.new; fault = fault_in result }) (starting (desk_of desk.old) id (fitted settings.now)) }
+    ensures written_or_fault { ◌≡◌ {A = Outcome} (record { desk = desk.new; fault = fault_in result }) (starting desk.old id (fitted settings.now)) }
 {
     if !is_procedure(id) {
         return Err(FaultKind::InvalidProcedure.fault(u32::from(id)));

@@ -1,6 +1,5 @@
 // A link's turn in a tick.
 ghost use Rattle.std.specs.Prelude.{◌≡◌, ◌+◌, ◌<◌, ◌≤◌, true, nat_lt};
-ghost use Rattle.desks.specs.Desked.{desk_of};
 ghost use Rattle.machine.specs.Seats.{Turn, age_of, older as older_by, turn as turn_of};
 ghost use Rattle.turns.specs.Ends.{unanswered as unanswered_in};
 ghost use Rattle.turns.specs.Seated.{seat_of};
@@ -47,7 +46,7 @@ fn may_wait<L: Link>(hold: Option<Hold>) -> bool
 /// Nothing was due: the command grows older, or is abandoned at the wait limit.
 fn wait<L: Link>(place: u8, seat: &mut Seat<L>, desk: &mut Desk) -> (u32, u32)
     ensures at_most_one_raised { (result.0 ≤ 1) × (result.1 ≤ 1) }
-    ensures older_or_abandoned { ◌≡◌ {A = Turn L.kind} (record { seat = seat_of L.Link seat.new; desk = desk_of desk.new; raised = result.0; lost = result.1 }) (unanswered_in place (seat_of L.Link seat.old) (desk_of desk.old)) }
+    ensures older_or_abandoned { ◌≡◌ {A = Turn L.kind} (record { seat = seat_of L.Link seat.new; desk = desk.new; raised = result.0; lost = result.1 }) (unanswered_in place (seat_of L.Link seat.old) desk.old) }
 {
     let hold = seat.hold;
     if may_wait::<L>(hold) {
@@ -66,7 +65,7 @@ fn wait<L: Link>(place: u8, seat: &mut Seat<L>, desk: &mut Desk) -> (u32, u32)
 /// One link's turn: an idle one has none. Answers the events raised and lost.
 pub fn turn<L: Link>(place: u8, seat: &mut Seat<L>, desk: &mut Desk) -> (u32, u32)
     ensures at_most_one_raised { (result.0 ≤ 1) × (result.1 ≤ 1) }
-    ensures by_what_was_due { ◌≡◌ {A = Turn L.kind} (record { seat = seat_of L.Link seat.new; desk = desk_of desk.new; raised = result.0; lost = result.1 }) (turn_of place (seat_of L.Link seat.old) (desk_of desk.old)) }
+    ensures by_what_was_due { ◌≡◌ {A = Turn L.kind} (record { seat = seat_of L.Link seat.new; desk = desk.new; raised = result.0; lost = result.1 }) (turn_of place (seat_of L.Link seat.old) desk.old) }
 {
     if !seat.link.is_held() {
         return (0, 0);
