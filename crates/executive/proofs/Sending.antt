@@ -1,4 +1,4 @@
--- What a send leaves, by its answer alone.
+-- What a send leaves, by its answer alone; a log that is left on a machine.
 use Rattle.std.proofs.Common.{◌≡◌, ℕ, Bool, true, false, cond, Some, Ok, Err, Result, sym, refl, ap, ◌∙◌}
 use Rattle.desks.specs.declared.chain.LinkFault.{LinkFault}
 use Rattle.desks.specs.declared.chain.LinkFault.TheVariants.{Stopped}
@@ -9,7 +9,7 @@ use Rattle.links.specs.declared.answers.OfferRefusal.TheVariants.{Busy, Spent}
 use Rattle.links.specs.Meaning.{LinkKind, offer_answer}
 use Rattle.machine.specs.declared.state.Owner.TheVariants as owner
 use Rattle.machine.specs.declared.state.Run.{Run}
-use Rattle.machine.specs.Desks.{Desk, with_run, reported, settled, is_blocked, failed_run}
+use Rattle.machine.specs.Desks.{Desk, Log, with_log, with_run, reported, settled, is_blocked, failed_run}
 use Rattle.machine.specs.Machine.{Machine, sent_on, with_desk, means_at, offered_at, triggered_by, triggered, sent_by, sending}
 use Rattle.records.specs.declared.command.Command.{Command}
 use Rattle.records.specs.declared.fault.FaultKind.TheVariants.{UnitStopped}
@@ -19,6 +19,13 @@ use Rattle.watches.specs.Meaning.{WatchKind}
 use Rattle.executive.specs.Sends.{offered_to, send_answer, after_send, finished_step}
 
 module _ {K0 K1 K2 : LinkKind} {W : WatchKind} where
+  -- the log that is left on a machine, where the machine is the same as another
+  pub left_on : {x y : Machine K0 K1 K2 W} → x ≡ y → (next : Log → Log) (l : Log) → l ≡ next x.desk.log
+      → with_desk x (with_log x.desk l) ≡ with_desk y (with_log y.desk (next y.desk.log))
+  left_on {x} {y} same next l is =
+      ap (λ (z : Machine K0 K1 K2 W). with_desk z (with_log z.desk l)) same
+      ∙ ap (λ (k : Log). with_desk y (with_log y.desk k)) (is ∙ ap (λ (z : Machine K0 K1 K2 W). next z.desk.log) same)
+
   -- a trigger's number is parked or settled
   abbrev pub parked : Result (Unit {0}) LinkFault → ℕ → Desk → Machine K0 K1 K2 W → Machine K0 K1 K2 W
   parked (Ok u) n d m = with_desk m (reported d n Started)

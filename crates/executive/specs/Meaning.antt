@@ -1,5 +1,4 @@
 -- The executive in the code, as the machine.
-use Rattle.desks.specs.Desked.{desk_of}
 use Rattle.links.specs.declared.link.Link as link
 use Rattle.machine.specs.Machine.{Machine}
 use Rattle.turns.specs.Seated.{seat_of}
@@ -13,5 +12,5 @@ module _ {A B C V : Type 0} (x : link.Ghosts A) (y : link.Ghosts B) (z : link.Gh
     seat1 = seat_of y e.seat1;
     seat2 = seat_of z e.seat2;
     watch = w.state e.watch;
-    desk = desk_of e.desk;
+    desk = e.desk;
   }

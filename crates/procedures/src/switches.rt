@@ -1,6 +1,5 @@
 // Links set on or off, functions switched on or off.
 ghost use Rattle.std.specs.Prelude.{◌≡◌};
-ghost use Rattle.desks.specs.Desked.{desk_of};
 ghost use Rattle.desks.specs.Logs.{fault_in};
 ghost use Rattle.machine.specs.Procedures.{Outcome, setting};
 ghost use Rattle.procedures.specs.Judging.{switched, setting_status, setting_switch};
@@ -22,7 +21,7 @@ fn is_on(value: u32) -> Result<bool, Fault>
 }
 
 fn set_status(desk: &mut Desk, sid: u16, value: u32) -> Result<(), Fault>
-    ensures on_or_off { ◌≡◌ {A = Outcome} (record { desk = desk_of desk.new; fault = fault_in result }) (setting_status (desk_of desk.old) sid value) }
+    ensures on_or_off { ◌≡◌ {A = Outcome} (record { desk = desk.new; fault = fault_in result }) (setting_status desk.old sid value) }
 {
     if sid > 2 {
         return Err(FaultKind::InvalidSid.fault(u32::from(sid)));
@@ -37,7 +36,7 @@ fn set_status(desk: &mut Desk, sid: u16, value: u32) -> Result<(), Fault>
 }
 
 fn set_switch(desk: &mut Desk, width: u32, sid: u16, value: u32) -> Result<(), Fault>
-    ensures on_or_off { ◌≡◌ {A = Outcome} (record { desk = desk_of desk.new; fault = fault_in result }) (setting_switch width (desk_of desk.old) sid value) }
+    ensures on_or_off { ◌≡◌ {A = Outcome} (record { desk = desk.new; fault = fault_in result }) (setting_switch width desk.old sid value) }
 {
     if !has_function(width, u32::from(sid)) {
         return Err(FaultKind::InvalidWatched.fault(u32::from(sid)));
@@ -52,7 +51,7 @@ fn set_switch(desk: &mut Desk, width: u32, sid: u16, value: u32) -> Result<(), F
 
 /// Activity 1 sets a link's status, activity 2 a function on or off.
 pub fn set(desk: &mut Desk, width: u32, activity: u8, sid: u16, value: u32) -> Result<(), Fault>
-    ensures by_the_activity { ◌≡◌ {A = Outcome} (record { desk = desk_of desk.new; fault = fault_in result }) (setting width (desk_of desk.old) activity sid value) }
+    ensures by_the_activity { ◌≡◌ {A = Outcome} (record { desk = desk.new; fault = fault_in result }) (setting width desk.old activity sid value) }
 {
     match activity {
         1 => set_status(desk, sid, value),

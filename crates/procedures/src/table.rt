@@ -1,6 +1,5 @@
 // The table of procedures: loading, deleting, parameters and the judging of a start.
 ghost use Rattle.std.specs.Prelude.{◌≡◌, cond};
-ghost use Rattle.desks.specs.Desked.{desk_of};
 ghost use Rattle.desks.specs.Logs.{fault_in};
 ghost use Rattle.machine.specs.Desks.{with_procedure};
 ghost use Rattle.machine.specs.Procedures.{Outcome, is_procedure, loading, deleting, writing, setting_parameters, starting};
@@ -27,7 +26,7 @@ fn judge_id(id: u16) -> Result<(), Fault>
 
 /// The procedure of an ID, if it is loaded.
 fn loaded(desk: &Desk, id: u16) -> Result<Procedure, Fault>
-    ensures of_an_id_with_one { result ≡ loaded (desk_of desk.now) id }
+    ensures of_an_id_with_one { result ≡ loaded desk.now id }
 {
     judge_id(id)?;
     desk.procedures
@@ -38,7 +37,7 @@ fn loaded(desk: &Desk, id: u16) -> Result<Procedure, Fault>
 }
 
 fn set_procedure(desk: &mut Desk, id: u16, procedure: Option<Procedure>)
-    ensures only_this_one { desk_of desk.new ≡ with_procedure (desk_of desk.old) id procedure }
+    ensures only_this_one { desk.new ≡ with_procedure desk.old id procedure }
 {
     let place = usize::from(id.saturating_sub(1));
     let procedures = &mut desk.procedures[..];
@@ -48,7 +47,7 @@ fn set_procedure(desk: &mut Desk, id: u16, procedure: Option<Procedure>)
 }
 
 pub fn load(desk: &mut Desk, width: u32, id: u16, nop: u16, steps: &Steps) -> Result<(), Fault>
-    ensures loaded_or_fault { ◌≡◌ {A = Outcome} (record { desk = desk_of desk.new; fault = fault_in result }) (loading width (desk_of desk.old) id nop steps.now) }
+    ensures loaded_or_fault { ◌≡◌ {A = Outcome} (record { desk = desk.new; fault = fault_in result }) (loading width desk.old id nop steps.now) }
 {
     judge_id(id)?;
     if desk.runs(id) {
@@ -63,7 +62,7 @@ pub fn load(desk: &mut Desk, width: u32, id: u16, nop: u16, steps: &Steps) -> Re
 }
 
 pub fn delete(desk: &mut Desk, id: u16) -> Result<(), Fault>
-    ensures emptied_or_fault { ◌≡◌ {A = Outcome} (record { desk = desk_of desk.new; fault = fault_in result }) (deleting (desk_of desk.old) id) }
+    ensures emptied_or_fault { ◌≡◌ {A = Outcome} (record { desk = desk.new; fault = fault_in result }) (deleting desk.old id) }
 {
     loaded(desk, id)?;
     if desk.runs(id) {
@@ -80,7 +79,7 @@ fn write(
     mut procedure: Procedure,
     settings: &Settings,
 ) -> Result<(), Fault>
-    ensures written_or_fault { ◌≡◌ {A = Outcome} (record { desk = desk_of desk.new; fault = fault_in result }) (writing (desk_of desk.old) id procedure (fitted settings.now)) }
+    ensures written_or_fault { ◌≡◌ {A = Outcome} (record { desk = desk.new; fault = fault_in result }) (writing desk.old id procedure (fitted settings.now)) }
 {
     let nop = procedure.nop;
     let count = settings.count.min(MOST_COUNTED);
@@ -93,7 +92,7 @@ fn write(
 }
 
 pub fn set_parameters(desk: &mut Desk, id: u16, settings: &Settings) -> Result<(), Fault>
-    ensures written_or_fault { ◌≡◌ {A = Outcome} (record { desk = desk_of desk.new; fault = fault_in result }) (setting_parameters (desk_of desk.old) id (fitted settings.now)) }
+    ensures written_or_fault { ◌≡◌ {A = Outcome} (record { desk = desk.new; fault = fault_in result }) (setting_parameters desk.old id (fitted settings.now)) }
 {
     let procedure = loaded(desk, id)?;
     write(desk, id, procedure, settings)
@@ -101,7 +100,7 @@ pub fn set_parameters(desk: &mut Desk, id: u16, settings: &Settings) -> Result<(
 
 /// Judges a start and writes its parameters; the run itself begins elsewhere.
 pub fn prepare(desk: &mut Desk, id: u16, settings: &Settings) -> Result<(), Fault>
-    ensures written_or_fault { ◌≡◌ {A = Outcome} (record { desk = desk_of desk.new; fault = fault_in result }) (starting (desk_of desk.old) id (fitted settings.now)) }
+    ensures written_or_fault { ◌≡◌ {A = Outcome} (record { desk = desk.new; fault = fault_in result }) (starting desk.old id (fitted settings.now)) }
 {
     let procedure = loaded(desk, id)?;
     if let Some(run) = desk.run {

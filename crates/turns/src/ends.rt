@@ -1,7 +1,6 @@
 // How a held command ends for its owner.
 ghost use Rattle.std.specs.Prelude.{◌≡◌, Some};
 ghost use Rattle.desks.specs.Chains.{link_fault};
-ghost use Rattle.desks.specs.Desked.{desk_of};
 ghost use Rattle.machine.specs.Seats.{answered_run, ended};
 ghost use Rattle.turns.specs.Ends.{ending_of, desk_after, failed_with, replied};
 
@@ -16,7 +15,7 @@ use records::report::Stage;
 
 /// A run whose command was answered moves on or ends; one that waits for no answer is left alone.
 fn answer_run(run: Run, answer: Result<(), LinkFault>, desk: &mut Desk)
-    ensures moves_on_or_ends { desk_of desk.new ≡ answered_run run.state (ending_of answer) run (desk_of desk.old) }
+    ensures moves_on_or_ends { desk.new ≡ answered_run run.state (ending_of answer) run desk.old }
 {
     match (run.state, in_report(standing(run), answer)) {
         (RunState::Ready { .. }, _) => {}
@@ -27,7 +26,7 @@ fn answer_run(run: Run, answer: Result<(), LinkFault>, desk: &mut Desk)
 
 /// Tells the owner of a command how it ended.
 fn end(hold: Option<Hold>, answer: Result<(), LinkFault>, desk: &mut Desk)
-    ensures for_its_owner { desk_of desk.new ≡ ended hold (ending_of answer) (desk_of desk.old) }
+    ensures for_its_owner { desk.new ≡ ended hold (ending_of answer) desk.old }
 {
     let Some(hold) = hold else {
         return;
@@ -51,7 +50,7 @@ fn end(hold: Option<Hold>, answer: Result<(), LinkFault>, desk: &mut Desk)
 
 /// A command that ended with a fault: an event first.
 pub fn fail(hold: Option<Hold>, event: Event, fault: LinkFault, desk: &mut Desk) -> Raised
-    ensures event_then_owner { desk_after (desk_of desk.new) (Some result) ≡ failed_with event (link_fault fault) hold (desk_of desk.old) }
+    ensures event_then_owner { desk_after desk.new (Some result) ≡ failed_with event (link_fault fault) hold desk.old }
 {
     let raised = desk.log.raise(event);
     end(hold, Err(fault), desk);
@@ -60,7 +59,7 @@ pub fn fail(hold: Option<Hold>, event: Event, fault: LinkFault, desk: &mut Desk)
 
 /// A command that its unit replied to. Answers the event that was raised, if any.
 pub fn reply(place: u8, hold: Option<Hold>, reply: Reply, desk: &mut Desk) -> Option<Raised>
-    ensures by_the_reply { desk_after (desk_of desk.new) result ≡ replied reply place hold (desk_of desk.old) }
+    ensures by_the_reply { desk_after desk.new result ≡ replied reply place hold desk.old }
 {
     let link = u32::from(place);
     match reply {

@@ -1,6 +1,5 @@
 // A link's turn in a tick.
 ghost use Rattle.std.specs.Prelude.{◌≡◌, ◌+◌, ◌<◌, true, nat_lt};
-ghost use Rattle.desks.specs.Desked.{desk_of};
 ghost use Rattle.machine.specs.Seats.{age_of, older as older_by, turn as turn_of};
 ghost use Rattle.turns.specs.Ends.{turn_after, unanswered as unanswered_in};
 ghost use Rattle.turns.specs.Seated.{seat_of};
@@ -41,7 +40,7 @@ fn may_wait<L: Link>(hold: Option<Hold>) -> bool
 
 /// Nothing was due: the command grows older, or is abandoned at the wait limit.
 fn wait<L: Link>(place: u8, seat: &mut Seat<L>, desk: &mut Desk) -> Option<Raised>
-    ensures older_or_abandoned { turn_after (seat_of L.Link seat.new) (desk_of desk.new) result ≡ unanswered_in place (seat_of L.Link seat.old) (desk_of desk.old) }
+    ensures older_or_abandoned { turn_after (seat_of L.Link seat.new) desk.new result ≡ unanswered_in place (seat_of L.Link seat.old) desk.old }
 {
     let hold = seat.hold;
     if may_wait::<L>(hold) {
@@ -59,7 +58,7 @@ fn wait<L: Link>(place: u8, seat: &mut Seat<L>, desk: &mut Desk) -> Option<Raise
 
 /// One link's turn: an idle one has none. Answers the event that was raised, if any.
 pub fn turn<L: Link>(place: u8, seat: &mut Seat<L>, desk: &mut Desk) -> Option<Raised>
-    ensures by_what_was_due { turn_after (seat_of L.Link seat.new) (desk_of desk.new) result ≡ turn_of place (seat_of L.Link seat.old) (desk_of desk.old) }
+    ensures by_what_was_due { turn_after (seat_of L.Link seat.new) desk.new result ≡ turn_of place (seat_of L.Link seat.old) desk.old }
 {
     if !seat.link.is_held() {
         return None;

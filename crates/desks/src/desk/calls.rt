@@ -2,7 +2,7 @@
 ghost use Rattle.std.specs.Prelude.{◌≡◌, ◌-◌, option_copied};
 ghost use Rattle.machine.specs.Desks.{new_desk, with_status, status_at, is_blocked, is_on, procedure_at, runs as runs_on, steps_of, passed};
 ghost use Rattle.machine.specs.Parts.{action_at, parameter_of};
-ghost use Rattle.desks.specs.Desked.{desk_of, run_ended};
+ghost use Rattle.desks.specs.Desked.{run_ended};
 
 use super::Desk;
 use crate::items::set_item;
@@ -19,7 +19,7 @@ fn place_of(id: u16) -> usize
 
 impl Desk {
     pub fn new() -> Desk
-        ensures as_at_the_making { desk_of result ≡ new_desk }
+        ensures as_at_the_making { result ≡ new_desk }
     {
         Desk {
             statuses: [LinkStatus::Off; 3],
@@ -32,7 +32,7 @@ impl Desk {
 
     /// A link's status; off above link 2.
     pub fn status(&self, link: u32) -> LinkStatus
-        ensures of_the_link { result ≡ status_at (desk_of self.now) link }
+        ensures of_the_link { result ≡ status_at self.now link }
     {
         self.statuses
             .get(link as usize)
@@ -42,7 +42,7 @@ impl Desk {
 
     /// Whether no command may be offered to a link.
     pub fn is_blocked(&self, link: u8) -> bool
-        ensures off_or_any_stopped { result ≡ is_blocked (desk_of self.now) link }
+        ensures off_or_any_stopped { result ≡ is_blocked self.now link }
     {
         self.status(u32::from(link)) == LinkStatus::Off
             || self.statuses.contains(&LinkStatus::Stopped)
@@ -50,14 +50,14 @@ impl Desk {
 
     /// Sets a link's status; nothing above link 2.
     pub fn set_status(&mut self, link: u16, status: LinkStatus)
-        ensures of_this_link { desk_of self.new ≡ with_status (desk_of self.old) link status }
+        ensures of_this_link { self.new ≡ with_status self.old link status }
     {
         set_item(&mut self.statuses, usize::from(link), status);
     }
 
     /// Whether a function is switched on; from function 24 on none is.
     pub fn is_on(&self, function: u32) -> bool
-        ensures its_switch { result ≡ is_on (desk_of self.now) function }
+        ensures its_switch { result ≡ is_on self.now function }
     {
         self.switches
             .get(function.saturating_sub(1) as usize)
@@ -67,20 +67,20 @@ impl Desk {
 
     /// Whether the procedure of this ID runs.
     pub fn runs(&self, id: u16) -> bool
-        ensures by_its_id { result ≡ runs_on (desk_of self.now) id }
+        ensures by_its_id { result ≡ runs_on self.now id }
     {
         self.run.map_or(0, |run| run.id) == id
     }
 
     fn procedure(&self, id: u16) -> Option<&Procedure>
-        ensures at_its_place { option_copied result ≡ procedure_at (desk_of self.now) id }
+        ensures at_its_place { option_copied result ≡ procedure_at self.now id }
     {
         self.procedures.get(place_of(id))?.as_ref()
     }
 
     /// What the procedure of this ID does at a step, with so many steps before it.
     pub fn action(&self, id: u16, step: usize) -> Action
-        ensures of_the_procedure { result ≡ action_at (procedure_at (desk_of self.now) id) step }
+        ensures of_the_procedure { result ≡ action_at (procedure_at self.now id) step }
     {
         self.procedure(id)
             .and_then(|procedure| procedure.actions.items.get(step).copied())
@@ -89,7 +89,7 @@ impl Desk {
 
     /// The value of a parameter of the procedure of this ID.
     pub fn parameter(&self, id: u16, number: u16) -> u32
-        ensures of_the_procedure { result ≡ parameter_of (procedure_at (desk_of self.now) id) number }
+        ensures of_the_procedure { result ≡ parameter_of (procedure_at self.now id) number }
     {
         self.procedure(id).map_or(0, |procedure| match number {
             0 => 0,
@@ -102,7 +102,7 @@ impl Desk {
     }
 
     fn steps(&self, id: u16) -> usize
-        ensures of_the_procedure { result ≡ steps_of (procedure_at (desk_of self.now) id) }
+        ensures of_the_procedure { result ≡ steps_of (procedure_at self.now id) }
     {
         self.procedure(id)
             .map_or(0, |procedure| procedure.actions.count)
@@ -110,7 +110,7 @@ impl Desk {
 
     /// Ends the run with its final report.
     pub fn end_run(&mut self, run: Run, stage: Stage)
-        ensures no_run_and_its_report { desk_of self.new ≡ run_ended run stage (desk_of self.old) }
+        ensures no_run_and_its_report { self.new ≡ run_ended run stage self.old }
     {
         self.run = None;
         self.log.file(run.number, stage);
@@ -118,7 +118,7 @@ impl Desk {
 
     /// The run has passed the step where it stood.
     pub fn pass(&mut self, run: Run)
-        ensures next_step_or_done { desk_of self.new ≡ passed run (desk_of self.old) }
+        ensures next_step_or_done { self.new ≡ passed run self.old }
     {
         let next = run.step.saturating_add(1);
         if next < self.steps(run.id) {

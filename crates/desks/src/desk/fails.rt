@@ -1,7 +1,7 @@
 // How a run ends with a fault.
 ghost use Rattle.std.specs.Prelude.{◌≡◌};
 ghost use Rattle.records.specs.declared.report.Stage.TheVariants.{Failed};
-ghost use Rattle.desks.specs.Desked.{desk_of, run_ended};
+ghost use Rattle.desks.specs.Desked.{run_ended};
 
 use super::Desk;
 use machine::state::Run;
@@ -11,7 +11,7 @@ use records::report::Stage;
 impl Desk {
     /// Ends the run with a fault: its report counts what the run sent.
     pub fn fail_run(&mut self, run: Run, fault: Fault)
-        ensures failed_with_what_it_sent { desk_of self.new ≡ run_ended run (Failed run.sent fault) (desk_of self.old) }
+        ensures failed_with_what_it_sent { self.new ≡ run_ended run (Failed run.sent fault) self.old }
     {
         self.end_run(
             run,

@@ -1,6 +1,5 @@
 // The links by their number.
 ghost use Rattle.std.specs.Prelude.{◌≡◌};
-ghost use Rattle.desks.specs.Desked.{desk_of};
 ghost use Rattle.links.specs.Meaning.{offer_answer};
 ghost use Rattle.machine.specs.Machine.{means_at, offered_at, abandoned_at};
 ghost use Rattle.executive.specs.Meaning.{meaning};
@@ -18,7 +17,7 @@ impl<A: Link, B: Link, C: Link, W: Watch> Executive<A, B, C, W> {
     fn offer_at(&mut self, link: u8, command: Command, owner: Owner) -> Result<(), OfferRefusal>
         ensures as_the_link_answers { result ≡ offer_answer (means_at (meaning A.Link B.Link C.Link W.Watch self.old) link) }
         ensures that_link_only { meaning A.Link B.Link C.Link W.Watch self.new ≡ offered_at (meaning A.Link B.Link C.Link W.Watch self.old) link command owner }
-        ensures desk_as_it_was { desk_of self.new.desk ≡ desk_of self.old.desk }
+        ensures desk_as_it_was { self.new.desk ≡ self.old.desk }
     {
         match link {
             0 => self.seat0.offer(command, owner),
@@ -29,7 +28,7 @@ impl<A: Link, B: Link, C: Link, W: Watch> Executive<A, B, C, W> {
 
     pub(crate) fn abandon_at(&mut self, link: u8)
         ensures that_link_only { meaning A.Link B.Link C.Link W.Watch self.new ≡ abandoned_at (meaning A.Link B.Link C.Link W.Watch self.old) link }
-        ensures desk_as_it_was { desk_of self.new.desk ≡ desk_of self.old.desk }
+        ensures desk_as_it_was { self.new.desk ≡ self.old.desk }
     {
         match link {
             0 => self.seat0.abandon(),
@@ -42,7 +41,7 @@ impl<A: Link, B: Link, C: Link, W: Watch> Executive<A, B, C, W> {
     pub(crate) fn send(&mut self, link: u8, command: Command, owner: Owner) -> Result<(), LinkFault>
         ensures blocked_before_offered { result ≡ send_answer (meaning A.Link B.Link C.Link W.Watch self.old) link }
         ensures that_link_only { meaning A.Link B.Link C.Link W.Watch self.new ≡ after_send (meaning A.Link B.Link C.Link W.Watch self.old) link command owner }
-        ensures desk_as_it_was { desk_of self.new.desk ≡ desk_of self.old.desk }
+        ensures desk_as_it_was { self.new.desk ≡ self.old.desk }
     {
         if self.desk.is_blocked(link) {
             return Err(LinkFault::Stopped { link });

@@ -3,7 +3,7 @@ use Rattle.desks.specs.declared.chain.StepFault.{StepFault}
 use Rattle.desks.specs.Chains.{in_step}
 use Rattle.machine.specs.declared.state.RunState.TheVariants.{Sent}
 use Rattle.machine.specs.Desks.{with_run}
-use Rattle.machine.specs.Machine.{with_desk}
+use Rattle.machine.specs.Machine.{Machine, with_desk}
 use Rattle.executive.specs.Meaning.{meaning}
 use Rattle.executive.specs.Sends.{finished_step}
 use Rattle.executive.proofs.Sending.{steps}
@@ -27,8 +27,10 @@ returns g c =
     let sent = meaning g.A.Link g.B.Link g.C.Link g.W.Watch c.send-answer.new.self in
     let r = c.args.run in
     let more = ap (λ (k : ℕ). with_desk sent (with_run sent.desk (Some (record { id = r.id; number = r.number; step = r.step; sent = k; state = Sent c.args.link })))) c.saturating_add.ensures in
+    let seen = ap (meaning g.A.Link g.B.Link g.C.Link g.W.Watch) c.self.view_is in
+    let opened = ap (λ (x : Machine g.A.Link.kind g.B.Link.kind g.C.Link.kind g.W.Watch.kind). with_desk x (with_run x.desk (Some (record { id = r.id; number = r.number; step = r.step; sent = c.saturating_add.result; state = Sent c.args.link })))) seen in
     let is = sym c.in_ok-in_step.was ∙ c.in_step.ensures.fault_with_its_step ∙ ap (λ (k : ℕ). in_step k c.send-answer.result) c.standing.ensures.from_1 in
     record {
-      sent_or_its_fault = more ∙ steps m sent c.send-answer.result (Ok c.in_ok-in_step.field-0) r c.args.link c.args.command is
+      sent_or_its_fault = opened ∙ more ∙ steps m sent c.send-answer.result (Ok c.in_ok-in_step.field-0) r c.args.link c.args.command is
           c.send-answer.ensures.blocked_before_offered c.send-answer.ensures.that_link_only c.send-answer.ensures.desk_as_it_was;
     }
