@@ -1,5 +1,5 @@
 -- What a call adds to a run, on a console over any three links and any watch.
-use Rattle.std.specs.Prelude.{◌≡◌, ℕ, [], ◌∷◌, vec_items}
+use Rattle.std.specs.Prelude.{◌≡◌, [], ◌∷◌, vec_items}
 use Rattle.executive.specs.Meaning.{meaning}
 use Rattle.links.specs.declared.link.Link as link
 use Rattle.links.specs.Meaning.{LinkKind}
