@@ -17,6 +17,7 @@ use machine::equipment::Equipment;
 use records::refusal::Refusal;
 use watches::watch::Watch;
 
+// Kept: no `impl Model`, since its `Value` would be the machine over the kinds of `A`, `B`, `C` and `W`, and a `Value` can't name what a bound brings.
 #[derive(Drop)]
 pub struct Console<A: Link, B: Link, C: Link, W: Watch> {
     executive: Executive<A, B, C, W>,

@@ -30,11 +30,17 @@ abbrev pub processor_link : link.Ghosts Processor
 processor_link = record { kind = processor_kind; state = processor_state; WAIT_LIMIT = 20 }
 
 -- a Still, a Moving and a Band
-abbrev pub three_functions : watch.Ghosts (Pair (Comparing Change) (Pair (Comparing Repeat) Band))
+abbrev pub BenchWatch : Type 0
+BenchWatch = Pair (Comparing Change) (Pair (Comparing Repeat) Band)
+
+abbrev pub three_functions : watch.Ghosts BenchWatch
 three_functions = record { kind = bench_watch; state = λ w. (w.left.last, (w.right.left.last, w.right.right)) }
 
-abbrev pub bench_made_of : Equipment Wire Processor Processor (Pair (Comparing Change) (Pair (Comparing Repeat) Band)) → Machine wire_kind processor_kind processor_kind bench_watch
+abbrev pub BenchEquipment : Type 0
+BenchEquipment = Equipment Wire Processor Processor BenchWatch
+
+abbrev pub bench_made_of : BenchEquipment → Machine wire_kind processor_kind processor_kind bench_watch
 bench_made_of e = made_of wire_link processor_link processor_link three_functions e
 
-abbrev pub BenchIsFresh : Equipment Wire Processor Processor (Pair (Comparing Change) (Pair (Comparing Repeat) Band)) → Type 0
+abbrev pub BenchIsFresh : BenchEquipment → Type 0
 BenchIsFresh e = FreshOf wire_link processor_link processor_link three_functions e

@@ -10,6 +10,7 @@ use links::link::Link;
 use machine::state::{Hold, Owner};
 use records::command::Command;
 
+// Kept: no `impl Model`, since its `Value` would be the machine's seat of `L.kind`, and a `Value` can't name what a bound brings.
 #[derive(Drop)]
 pub struct Seat<L: Link> {
     pub link: L,

@@ -19,22 +19,14 @@ impl<A: Link, B: Link, C: Link, W: Watch> Executive<A, B, C, W> {
         ensures that_link_only { meaning A.Link B.Link C.Link W.Watch self.new ≡ offered_at (meaning A.Link B.Link C.Link W.Watch self.old) link command owner }
         ensures desk_as_it_was { self.new.desk ≡ self.old.desk }
     {
-        match link {
-            0 => self.seat0.offer(command, owner),
-            1 => self.seat1.offer(command, owner),
-            _ => self.seat2.offer(command, owner),
-        }
+        at_link!(self, link, offer(command, owner))
     }
 
     pub(crate) fn abandon_at(&mut self, link: u8)
         ensures that_link_only { meaning A.Link B.Link C.Link W.Watch self.new ≡ abandoned_at (meaning A.Link B.Link C.Link W.Watch self.old) link }
         ensures desk_as_it_was { self.new.desk ≡ self.old.desk }
     {
-        match link {
-            0 => self.seat0.abandon(),
-            1 => self.seat1.abandon(),
-            _ => self.seat2.abandon(),
-        }
+        at_link!(self, link, abandon())
     }
 
     /// Offers a command to a link, unless it is blocked.

@@ -13,24 +13,20 @@ impl<A: Link, B: Link, C: Link, W: Watch> Executive<A, B, C, W> {
     pub fn message_length(&self, link: u32) -> usize
         ensures of_the_message { result ≡ length (message_of (meaning A.Link B.Link C.Link W.Watch self.now) link) }
     {
-        match link {
-            0 => self.seat0.link.message_length(),
-            1 => self.seat1.link.message_length(),
-            2 => self.seat2.link.message_length(),
-            _ => 0,
+        if link > 2 {
+            return 0;
         }
+        at_link!(self, link, link.message_length())
     }
 
     /// A byte of what a link would send now; 0 past its end, and above link 2.
     pub fn message_byte(&self, link: u32, at: usize) -> u8
         ensures byte_or_zero { result ≡ slice_index (message_of (meaning A.Link B.Link C.Link W.Watch self.now) link) at }
     {
-        match link {
-            0 => self.seat0.link.message_byte(at),
-            1 => self.seat1.link.message_byte(at),
-            2 => self.seat2.link.message_byte(at),
-            _ => 0,
+        if link > 2 {
+            return 0;
         }
+        at_link!(self, link, link.message_byte(at))
     }
 
     /// A link's status; off above link 2.

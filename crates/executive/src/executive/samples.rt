@@ -19,22 +19,14 @@ impl<A: Link, B: Link, C: Link, W: Watch> Executive<A, B, C, W> {
     fn is_held_at(&self, link: u32) -> bool
         ensures a_command_is_held { result ≡ is_some (means_at (meaning A.Link B.Link C.Link W.Watch self.now) link).held }
     {
-        match link {
-            0 => self.seat0.link.is_held(),
-            1 => self.seat1.link.is_held(),
-            _ => self.seat2.link.is_held(),
-        }
+        at_link!(self, link, link.is_held())
     }
 
     fn receive_at(&mut self, link: u32, bytes: &[u8]) -> Receipt
         ensures as_the_link_answers { result ≡ receipt (means_at (meaning A.Link B.Link C.Link W.Watch self.old) link) (means_at (received_at (meaning A.Link B.Link C.Link W.Watch self.old) link bytes.now) link) }
         ensures that_link_only { meaning A.Link B.Link C.Link W.Watch self.new ≡ received_at (meaning A.Link B.Link C.Link W.Watch self.old) link bytes.now }
     {
-        match link {
-            0 => self.seat0.receive(bytes),
-            1 => self.seat1.receive(bytes),
-            _ => self.seat2.receive(bytes),
-        }
+        at_link!(self, link, receive(bytes))
     }
 
     fn hand_over(&mut self, link: u32, bytes: &[u8]) -> Result<Receipt, Refusal>

@@ -5,11 +5,7 @@ use Rattle.console.specs.Consoles.{call_of, answer_of}
 use Rattle.console.proofs.Answering.{answered_so}
 use Rattle.console.proofs.cases.work_the_bench.Goals as goal
 
-pub returns : goal.returns
-unfolding answers_to
-returns c =
+pub returns-clause-worked_cases : goal.returns-clause-worked_cases
+returns-clause-worked_cases c =
     let told : map answer_of (vec_items c.in_ok-answers.answers) ≡ answers_to bench (map call_of c.args.calls.now) = search rules in
-    record {
-      answers_of_the_machine = told;
-      worked_cases = answered_so (map call_of c.args.calls.now) (map answer_of (vec_items c.in_ok-answers.answers)) told;
-    }
+    answered_so (map call_of c.args.calls.now) (map answer_of (vec_items c.in_ok-answers.answers)) told

@@ -3,8 +3,6 @@ use Rattle.machine.specs.Calls.{told, sampled}
 use Rattle.console.proofs.Going.{goes_on}
 use Rattle.console.proofs.console.Console.sample.Goals as goal
 
-pub returns : goal.returns
-returns g c = record {
-  as_the_machine_does = (ap (told sampled) c.sample.ensures.answer, c.sample.ensures.after);
-  goes_on_balanced = goes_on g.met.A.Link.lawful g.met.B.Link.lawful g.met.C.Link.lawful g.met.W.Watch.lawful _ _ _ _ (ap (told sampled) c.sample.ensures.answer, c.sample.ensures.after);
-}
+pub returns-clause-goes_on_balanced : goal.returns-clause-goes_on_balanced
+returns-clause-goes_on_balanced g c =
+    goes_on g.met.A.Link.lawful g.met.B.Link.lawful g.met.C.Link.lawful g.met.W.Watch.lawful _ _ _ _ (ap (told sampled) c.sample.ensures.answer, c.sample.ensures.after)

@@ -3,8 +3,6 @@ use Rattle.machine.specs.Calls.{told, submitted}
 use Rattle.console.proofs.Going.{goes_on}
 use Rattle.console.proofs.console.Console.submit.Goals as goal
 
-pub returns : goal.returns
-returns g c = record {
-  as_the_machine_does = (ap (told submitted) c.submit.ensures.answer, c.submit.ensures.after);
-  goes_on_balanced = goes_on g.met.A.Link.lawful g.met.B.Link.lawful g.met.C.Link.lawful g.met.W.Watch.lawful _ _ _ _ (ap (told submitted) c.submit.ensures.answer, c.submit.ensures.after);
-}
+pub returns-clause-goes_on_balanced : goal.returns-clause-goes_on_balanced
+returns-clause-goes_on_balanced g c =
+    goes_on g.met.A.Link.lawful g.met.B.Link.lawful g.met.C.Link.lawful g.met.W.Watch.lawful _ _ _ _ (ap (told submitted) c.submit.ensures.answer, c.submit.ensures.after)
