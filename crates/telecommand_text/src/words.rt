@@ -1,25 +1,11 @@
 // Telecommands in words, for people who read a sheet.
 ghost use Rattle.std.specs.Prelude.{◌≡◌};
 ghost use Rattle.std.specs.Fmt.{WritesOnOk};
-ghost use Rattle.telecommand_text.specs.Words.{is_wait, is_expect, raw_step_text, step_text, next_step_text, steps_text, setting_text, settings_text, telecommand_text};
+ghost use Rattle.telecommand_text.specs.Words.{raw_step_text, step_text, next_step_text, steps_text, setting_text, settings_text, telecommand_text};
 
-use records::step::Step;
+use records::step::{Operation, Step};
 use std::fmt;
 use telecommands::packet::{Setting, Telecommand};
-
-fn is_wait(step: &Step) -> bool
-    ensures unused_fields_zero { result ≡ is_wait step.now }
-{
-    let Step { op, b, u, v, .. } = *step;
-    op == 2 && b == 0 && u == 0 && v == 0
-}
-
-fn is_expect(step: &Step) -> bool
-    ensures unused_fields_zero { result ≡ is_expect step.now }
-{
-    let Step { op, w, u, v, .. } = *step;
-    op == 3 && w == 0 && u == 0 && v == 0
-}
 
 fn write_raw_step<W: fmt::Write>(step: &Step, f: &mut fmt::Formatter<W>) -> fmt::Result
     ensures every_field { WritesOnOk W.write_str_gives f.old result (raw_step_text step.now) f.new }
@@ -32,15 +18,14 @@ fn write_raw_step<W: fmt::Write>(step: &Step, f: &mut fmt::Formatter<W>) -> fmt:
 fn write_step<W: fmt::Write>(step: &Step, f: &mut fmt::Formatter<W>) -> fmt::Result
     ensures by_its_operation { WritesOnOk W.write_str_gives f.old result (step_text step.now) f.new }
 {
-    let Step { op, b, w, u, v } = *step;
-    if op == 1 {
-        write!(f, "SEND link {b} command {w} SID {u} parameter {v}")
-    } else if is_wait(step) {
-        write!(f, "WAIT {w}")
-    } else if is_expect(step) {
-        write!(f, "EXPECT function {b}")
-    } else {
-        write_raw_step(step, f)
+    let Step { b, w, u, v, .. } = *step;
+    match step.operation() {
+        Some(Operation::Send) => {
+            write!(f, "SEND link {b} command {w} SID {u} parameter {v}")
+        }
+        Some(Operation::Wait) if b == 0 && u == 0 && v == 0 => write!(f, "WAIT {w}"),
+        Some(Operation::Expect) if w == 0 && u == 0 && v == 0 => write!(f, "EXPECT function {b}"),
+        _ => write_raw_step(step, f),
     }
 }
 
