@@ -33,6 +33,7 @@ fn judge_sheet<R: BufRead + Drop>(rt: &HostRuntime, reader: R) -> anyhow::Result
     Ok(())
 }
 
+// Kept: a call for each, since a file and standard input are two types of reader.
 fn run(rt: &HostRuntime) -> anyhow::Result<()> {
     let mut args = env::args(rt)?.skip(1);
     match args.next() {

@@ -90,6 +90,7 @@ fn hand_over<R: BufRead + Drop>(rt: &HostRuntime, reader: R) -> anyhow::Result<(
     print_totals(rt, &totals)
 }
 
+// Kept: a call for each, since a file and standard input are two types of reader.
 fn run(rt: &HostRuntime) -> anyhow::Result<()> {
     let mut args = env::args(rt)?.skip(1);
     match args.next() {
