@@ -2,25 +2,19 @@
 #![tactic(auto)]
 
 use crate::session::{next_place, respond};
-use bench_text::read::read_line;
-use bench_text::words::without_newline;
+use bench_text::input::Lines;
 use console::live::BenchConsole;
-use std::io::{BufRead, BufReader};
+use std::io::BufReader;
 
 mod session;
 
 fn run(rt: &HostRuntime) -> anyhow::Result<()> {
-    let mut reader = BufReader::new(rt.alloc(), rt.stdin())?;
+    let reader = BufReader::new(rt.alloc(), rt.stdin())?;
     let mut console = BenchConsole::new();
     let mut place = 0u64;
-    let mut text = Vec::new(rt.alloc());
     let mut answer = String::new(rt.alloc());
-    for _ in 0..u64::MAX {
-        text.clear();
-        if reader.read_until(b'\n', &mut text)? == 0 {
-            break;
-        }
-        let line = read_line(rt.alloc(), without_newline(text.as_slice()))?;
+    for line in Lines::of(rt.alloc(), reader) {
+        let line = line?;
         place = next_place(place, &line);
         answer.clear();
         respond(rt.alloc(), &mut console, line, place, &mut answer)?;

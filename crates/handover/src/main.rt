@@ -3,8 +3,7 @@
 
 use crate::sheet::verdict;
 use crate::verdict::Totals;
-use bench_text::read::read_line;
-use bench_text::words::without_newline;
+use bench_text::input::Lines;
 use std::io::{BufRead, BufReader};
 use std::{env, fs};
 
@@ -12,17 +11,11 @@ mod sheet;
 mod verdict;
 mod words;
 
-fn judge_sheet<R: BufRead>(rt: &HostRuntime, reader: &mut R) -> anyhow::Result<()> {
+fn judge_sheet<R: BufRead + Drop>(rt: &HostRuntime, reader: R) -> anyhow::Result<()> {
     let mut totals = Totals::new();
     let mut place = 0u64;
-    let mut text = Vec::new(rt.alloc());
-    for _ in 0..u64::MAX {
-        text.clear();
-        if reader.read_until(b'\n', &mut text)? == 0 {
-            break;
-        }
-        let line = read_line(rt.alloc(), without_newline(text.as_slice()))?;
-        if let Some(verdict) = verdict(&line) {
+    for line in Lines::of(rt.alloc(), reader) {
+        if let Some(verdict) = verdict(&line?) {
             place = place.saturating_add(1);
             totals.count(&verdict);
             println!(rt; "{place} {verdict}")?;
@@ -40,14 +33,15 @@ fn judge_sheet<R: BufRead>(rt: &HostRuntime, reader: &mut R) -> anyhow::Result<(
     Ok(())
 }
 
+// Kept: a call for each, since a file and standard input are two types of reader.
 fn run(rt: &HostRuntime) -> anyhow::Result<()> {
     let mut args = env::args(rt)?.skip(1);
     match args.next() {
         Some(path) => {
             let file = fs::open(rt, path.as_str())?;
-            judge_sheet(rt, &mut BufReader::new(rt.alloc(), file)?)
+            judge_sheet(rt, BufReader::new(rt.alloc(), file)?)
         }
-        None => judge_sheet(rt, &mut BufReader::new(rt.alloc(), rt.stdin())?),
+        None => judge_sheet(rt, BufReader::new(rt.alloc(), rt.stdin())?),
     }
 }
 

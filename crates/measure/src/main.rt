@@ -37,34 +37,66 @@ fn nanoseconds_each(spent: Duration) -> u128 {
     spent.as_nanos() / u128::from(ROUNDS)
 }
 
-/// A tick with three replies and a step, on its own; what leads to it is not timed.
-fn time_tick(rt: &HostRuntime, executive: &mut Bench) -> anyhow::Result<Duration> {
+/// The time of a call over all rounds; what leads to it and what ends it is not timed.
+fn time<B, C, A>(
+    rt: &HostRuntime,
+    executive: &mut Bench,
+    before: B,
+    call: C,
+    after: A,
+) -> anyhow::Result<Duration>
+where
+    B: Fn(&mut Bench) + Drop,
+    C: Fn(&mut Bench) + Drop,
+    A: Fn(&mut Bench) + Drop,
+    requires leads_to_it { B.IsAlwaysCallable before }
+    requires timed { C.IsAlwaysCallable call }
+    requires ends_it { A.IsAlwaysCallable after }
+{
     let mut spent = Duration::ZERO;
     for _ in 0..ROUNDS {
-        let _ = executive.submit(&START_ONE);
-        executive.tick();
-        let _ = executive.submit(&TRIGGER_1);
-        let _ = executive.submit(&TRIGGER_2);
-        let _ = executive.deliver(0, &[0x00, 0x84]);
+        before(executive);
         let begin = Instant::now(rt)?;
-        executive.tick();
+        call(executive);
         spent = spent.saturating_add(begin.elapsed(rt)?);
+        after(executive);
         drain(executive);
     }
     Ok(spent)
 }
 
+/// A tick with three replies and a step, on its own.
+fn time_tick(rt: &HostRuntime, executive: &mut Bench) -> anyhow::Result<Duration> {
+    time(
+        rt,
+        executive,
+        |executive| {
+            let _ = executive.submit(&START_ONE);
+            executive.tick();
+            let _ = executive.submit(&TRIGGER_1);
+            let _ = executive.submit(&TRIGGER_2);
+            let _ = executive.deliver(0, &[0x00, 0x84]);
+        },
+        |executive| {
+            executive.tick();
+        },
+        |_| {},
+    )
+}
+
 /// A submit of one packet.
 fn time_submit(rt: &HostRuntime, executive: &mut Bench, packet: &[u8]) -> anyhow::Result<Duration> {
-    let mut spent = Duration::ZERO;
-    for _ in 0..ROUNDS {
-        let begin = Instant::now(rt)?;
-        let _ = executive.submit(packet);
-        spent = spent.saturating_add(begin.elapsed(rt)?);
-        let _ = executive.submit(&STOP_ANY);
-        drain(executive);
-    }
-    Ok(spent)
+    time(
+        rt,
+        executive,
+        |_| {},
+        |executive| {
+            let _ = executive.submit(packet);
+        },
+        |executive| {
+            let _ = executive.submit(&STOP_ANY);
+        },
+    )
 }
 
 fn print_times(rt: &HostRuntime) -> anyhow::Result<()> {

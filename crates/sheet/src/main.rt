@@ -3,8 +3,7 @@
 
 use crate::sheet::SheetLine;
 use anyhow::anyhow;
-use bench_text::read::read_line;
-use bench_text::words::without_newline;
+use bench_text::input::Lines;
 use console::call::{Answer, Call};
 use machine::answers::Outcome;
 use sheets::bench::work_bench;
@@ -18,16 +17,10 @@ use telecommands::read::read_packet;
 
 mod sheet;
 
-fn read_list<R: BufRead>(rt: &HostRuntime, reader: &mut R) -> anyhow::Result<CallList> {
+fn read_list<R: BufRead + Drop>(rt: &HostRuntime, reader: R) -> anyhow::Result<CallList> {
     let mut list = CallList::new(rt.alloc());
-    let mut text = Vec::new(rt.alloc());
-    for _ in 0..u64::MAX {
-        text.clear();
-        if reader.read_until(b'\n', &mut text)? == 0 {
-            break;
-        }
-        let line = read_line(rt.alloc(), without_newline(text.as_slice()))?;
-        list.add(line)?;
+    for line in Lines::of(rt.alloc(), reader) {
+        list.add(line?)?;
     }
     Ok(list)
 }
@@ -35,7 +28,7 @@ fn read_list<R: BufRead>(rt: &HostRuntime, reader: &mut R) -> anyhow::Result<Cal
 /// Prints the line of a submit; other calls have none.
 fn print_call(
     rt: &HostRuntime,
-    place: usize,
+    place: u64,
     call: &Call,
     answer: &Answer,
     answers: &[Answer],
@@ -51,16 +44,13 @@ fn print_call(
 }
 
 fn print_lines(rt: &HostRuntime, list: &CallList, answers: &[Answer]) -> anyhow::Result<()> {
-    let mut place = 0usize;
-    let mut worked = 0usize;
-    for mark in &list.marks {
-        place = place.saturating_add(1);
+    let mut worked = list.calls.iter().zip(answers);
+    for (place, mark) in (1..).zip(&list.marks) {
         match mark {
             Mark::Call => {
-                if let (Some(call), Some(answer)) = (list.calls.get(worked), answers.get(worked)) {
+                if let Some((call, answer)) = worked.next() {
                     print_call(rt, place, call, answer, answers)?;
                 }
-                worked = worked.saturating_add(1);
             }
             Mark::Question => {}
             Mark::Unreadable => println!(rt; "{place} unreadable")?,
@@ -93,21 +83,22 @@ fn print_totals(rt: &HostRuntime, totals: &Totals) -> anyhow::Result<()> {
     }
 }
 
-fn hand_over<R: BufRead>(rt: &HostRuntime, reader: &mut R) -> anyhow::Result<()> {
+fn hand_over<R: BufRead + Drop>(rt: &HostRuntime, reader: R) -> anyhow::Result<()> {
     let list = read_list(rt, reader)?;
     let Shift { answers, totals } = work_bench(rt.alloc(), list.calls.as_slice())?;
     print_lines(rt, &list, answers.as_slice())?;
     print_totals(rt, &totals)
 }
 
+// Kept: a call for each, since a file and standard input are two types of reader.
 fn run(rt: &HostRuntime) -> anyhow::Result<()> {
     let mut args = env::args(rt)?.skip(1);
     match args.next() {
         Some(path) => {
             let file = fs::open(rt, path.as_str())?;
-            hand_over(rt, &mut BufReader::new(rt.alloc(), file)?)
+            hand_over(rt, BufReader::new(rt.alloc(), file)?)
         }
-        None => hand_over(rt, &mut BufReader::new(rt.alloc(), rt.stdin())?),
+        None => hand_over(rt, BufReader::new(rt.alloc(), rt.stdin())?),
     }
 }
 

@@ -1,7 +1,10 @@
 // The lines of the telecommand sheet.
-use records::fault::Fault;
-use records::report::Stage;
-use sheets::row::Row;
+ghost use Rattle.std.specs.Prelude.{Some};
+ghost use Rattle.std.specs.Fmt.{WritesOnOk};
+ghost use Rattle.sheet.specs.Lines.{packet_text, line_text};
+
+use records::refusal::Refusal;
+use sheets::row::Accepted;
 use std::fmt;
 use telecommand_text::words::write_telecommand;
 use telecommands::packet::Packet;
@@ -9,41 +12,13 @@ use telecommands::packet::Packet;
 /// A submit, with what its packet says where it can be read.
 #[derive(Clone, Copy)]
 pub struct SheetLine {
-    pub row: Row,
+    pub row: Result<Accepted, Refusal>,
     pub packet: Option<Packet>,
 }
 
-fn show_fault<W: fmt::Write>(fault: &Fault, f: &mut fmt::Formatter<W>) -> fmt::Result {
-    let Fault {
-        kind,
-        class,
-        parameter,
-        step,
-        code,
-        detail,
-    } = *fault;
-    let number = kind.number();
-    let name = kind.name();
-    let class = class.number();
-    write!(
-        f,
-        "fault {number} {name} class {class} parameter {parameter}"
-    )?;
-    write!(f, " step {step} code {code} detail {detail}")
-}
-
-fn show_stage<W: fmt::Write>(stage: &Stage, f: &mut fmt::Formatter<W>) -> fmt::Result {
-    match stage {
-        Stage::Started => write!(f, "STARTED"),
-        Stage::Done { sent } => write!(f, "DONE sent {sent}"),
-        Stage::Failed { sent, fault } => {
-            write!(f, "FAILED sent {sent} ")?;
-            show_fault(fault, f)
-        }
-    }
-}
-
-fn show_packet<W: fmt::Write>(packet: &Option<Packet>, f: &mut fmt::Formatter<W>) -> fmt::Result {
+fn write_packet<W: fmt::Write>(packet: &Option<Packet>, f: &mut fmt::Formatter<W>) -> fmt::Result
+    ensures where_it_can_be_read { WritesOnOk W.write_str_gives f.old result (packet_text packet.now) f.new }
+{
     match packet {
         Some(packet) => {
             write!(f, ": ")?;
@@ -54,30 +29,32 @@ fn show_packet<W: fmt::Write>(packet: &Option<Packet>, f: &mut fmt::Formatter<W>
 }
 
 impl fmt::Display for SheetLine {
+    ghost output = { λ line. Some (line_text line) };
+
     fn fmt<W: fmt::Write>(&self, f: &mut fmt::Formatter<W>) -> fmt::Result {
         match &self.row {
-            Row::Refused { refusal } => {
-                let number = refusal.number();
-                let name = refusal.name();
-                let parameter = refusal.parameter();
-                write!(f, "refused {number} {name} parameter {parameter}")?;
-                show_packet(&self.packet, f)
+            Err(refusal) => {
+                write!(f, "{refusal}")?;
+                write_packet(&self.packet, f)
             }
-            Row::Accepted {
-                number,
-                report: Some(stage),
-            } => {
+            Ok(
+                Accepted {
+                    number,
+                    report: Some(stage),
+                },
+            ) => {
                 write!(f, "[x] accepted {number}")?;
-                show_packet(&self.packet, f)?;
-                write!(f, " -> ")?;
-                show_stage(stage, f)
+                write_packet(&self.packet, f)?;
+                write!(f, " -> {stage}")
             }
-            Row::Accepted {
-                number,
-                report: None,
-            } => {
+            Ok(
+                Accepted {
+                    number,
+                    report: None,
+                },
+            ) => {
                 write!(f, "[ ] accepted {number}")?;
-                show_packet(&self.packet, f)
+                write_packet(&self.packet, f)
             }
         }
     }

@@ -1,6 +1,5 @@
 -- Finding the first final report of a number.
-use Rattle.std.proofs.Common.{◌≡◌, ℕ, ◌+◌, ◌<◌, ◌≤◌, Bool, true, false, cond, not, eqb, List, [], ◌∷◌, ◌++◌, map, reverse, length, get_or, drop, is_some, Some, None, Option, sym, refl, ap, ◌∙◌, zero-add, arith}
-use Rattle.std.proofs.lemmas.List.{at_drop_more, at_drop_all}
+use Rattle.std.proofs.Common.{◌≡◌, ℕ, ◌+◌, Bool, true, false, cond, not, eqb, List, [], ◌∷◌, ◌++◌, map, reverse, is_some, Some, None, Option, sym, refl, ap, ◌∙◌, zero-add, arith}
 use Rattle.std.proofs.lemmas.List.Sums.{sum_by-cons}
 use Rattle.std.proofs.lemmas.Bool.Decides.{nat_tests}
 use Rattle.console.specs.Consoles.{Answer}
@@ -15,6 +14,7 @@ use Rattle.records.specs.declared.report.Stage.{Stage}
 use Rattle.records.specs.declared.report.Stage.TheVariants.{Started, Done, Failed}
 use Rattle.sheets.specs.Finals.{final_stage, final_by, or_else, first_final}
 use Rattle.sheets.specs.Histories.{answers_in, reports_of}
+use Rattle.sheets.proofs.Firsts.{first_of}
 use Rattle.sheets.proofs.Handings.{sum_by_reverse, reports_collected}
 
 or_else_assoc : (a b c : Option Stage) → or_else (or_else a b) c ≡ or_else a (or_else b c)
@@ -29,16 +29,20 @@ first_append n (x ∷ xs) ys = ap (or_else (final_by n x)) (first_append n xs ys
 abbrev pub found_in : ℕ → List Answer → Option Stage
 found_in n answers = first_final n (reports_of (map answer_of answers))
 
-module _ (n : ℕ) (answers : List Answer) (i : ℕ) where
-  pub found_more : (d : Answer) (first : Option Stage) → i < length answers → found_in n answers ≡ found_in n (drop i answers) → first ≡ first_final n (reports_in (told_of (get_or answers i d).outcome))
-      → found_in n answers ≡ or_else first (found_in n (drop (i + 1) answers))
-  found_more d first more so is =
-      so ∙ at_drop_more (found_in n) answers i d more
-      ∙ first_append n (reports_in (told_of (get_or answers i d).outcome)) (reports_of (map answer_of (drop (i + 1) answers)))
-      ∙ ap (λ (o : Option Stage). or_else o (found_in n (drop (i + 1) answers))) (sym is)
+-- the final report that an answer hands out
+abbrev pub final_at : ℕ → Answer → Option Stage
+final_at n a = first_final n (reports_in (told_of a.outcome))
 
-  pub found_none : length answers ≤ i → found_in n (drop i answers) ≡ None
-  found_none all = at_drop_all (found_in n) answers i all
+first_or_else : (first later : Option Stage) → elim first [ None ↦ later | Some s ↦ Some s ] ≡ or_else first later
+first_or_else None later = refl
+first_or_else (Some s) later = refl
+
+pub found_is_first : (n : ℕ) (answers : List Answer) → first_of (final_at n) answers ≡ found_in n answers
+found_is_first n [] = refl
+found_is_first n (a ∷ answers) =
+    first_or_else (final_at n a) (first_of (final_at n) answers)
+    ∙ ap (or_else (final_at n a)) (found_is_first n answers)
+    ∙ sym (first_append n (reports_in (told_of a.outcome)) (reports_of (map answer_of answers)))
 
 some_counted : (k : ℕ) → true ≡ not (eqb (1 + k) 0)
 some_counted k = grind (arith, nat_tests)

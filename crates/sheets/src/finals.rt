@@ -42,10 +42,5 @@ pub fn final_report(answers: &[Answer], number: u32) -> Option<Stage>
     ensures first_collected { (h : History) → answers_in h ≡ map answer_of answers.now → result ≡ first_final number (reverse (collected_in h)) }
     ensures some_if_any_collected { (h : History) → answers_in h ≡ map answer_of answers.now → is_some result ≡ not (finals_of number (collected_in h) == 0) }
 {
-    for answer in answers {
-        if let Some(stage) = final_in(answer, number) {
-            return Some(stage);
-        }
-    }
-    None
+    answers.iter().find_map(|answer| final_in(answer, number))
 }

@@ -27,6 +27,7 @@ fn gives_pending(answer: &Answer, answers: &[Answer], rest: &[Answer]) -> bool
     }
 }
 
+// Kept: two lists of answers side by side; a struct of them would be taken apart again at each use.
 /// How many numbers the answers gave that have no final report, collected or waiting; the rest hands out what waits.
 pub fn pending(answers: &[Answer], rest: &[Answer]) -> u128
     ensures of_the_answers { result ≡ pending_of (map answer_of answers.now) (map answer_of rest.now) }

@@ -66,6 +66,7 @@ fn write_settings<W: fmt::Write>(settings: &[Setting], f: &mut fmt::Formatter<W>
     Ok(())
 }
 
+// Kept: a function and no `Display`, since the type is another crate's; a type round it would only wrap this call.
 /// What a telecommand says, without its counter.
 pub fn write_telecommand<W: fmt::Write>(
     telecommand: &Telecommand,

@@ -1,23 +1,16 @@
-use Rattle.std.proofs.Common.{Some, None, sym, ◌∙◌}
-use Rattle.sheets.proofs.Finding.{found_more, found_none, first_collected, some_if_any}
+use Rattle.std.proofs.Common.{◌≡◌, ap, ◌∙◌, rules, tests}
+use Rattle.sheets.proofs.Finding.{final_at, found_in, found_is_first, first_collected, some_if_any}
+use Rattle.sheets.proofs.Firsts.{first_of, first_by_run}
 use Rattle.sheets.proofs.finals.final_report.Goals as goal
-
-pub loop-answer-preserved : goal.loop-answer-preserved
-loop-answer-preserved c =
-    found_more c.args.number c.args.answers.now c.loop-answer.answer-index _ None c.loop-answer-test.true c.loop-answer.invariant c.in_default.ensures.in_a_report_of_the_number
-
-pub returns-in-Some : goal.returns-in-Some
-returns-in-Some c =
-    let is = sym (found_more c.args.number c.args.answers.now c.loop-answer.answer-index _ (Some c.in-Some.stage) c.loop-answer-test.true c.loop-answer.invariant c.in-Some.ensures.in_a_report_of_the_number) in
-    record {
-      first_handed_out = is;
-      first_collected = first_collected c.args.number c.args.answers.now _ is;
-      some_if_any_collected = some_if_any c.args.number c.args.answers.now _ is;
-    }
 
 pub returns : goal.returns
 returns c =
-    let is = sym (c.loop-answer.invariant ∙ found_none c.args.number c.args.answers.now c.loop-answer.answer-index c.loop-answer-test.false) in
+    let run = c.find_map.ensures.runs in
+    let reads = c.iter.ensures.runs run.0 run.0.seen in
+    let same : run.0.from.rest.now ≡ c.args.answers.now = cc in
+    let is : c.find_map.result ≡ found_in c.args.number c.args.answers.now =
+    first_by_run (λ y. y.now) _ (final_at c.args.number) _ (λ x r q k. search (rules, tests)) run.0 run.0.from.rest.now reads.0 reads.1 reads.2 c.find_map.result run.2
+    ∙ ap (first_of (final_at c.args.number)) same ∙ found_is_first c.args.number c.args.answers.now in
     record {
       first_handed_out = is;
       first_collected = first_collected c.args.number c.args.answers.now _ is;

@@ -1,0 +1,61 @@
+// The lines of an input, as they are read.
+ghost use Rattle.std.specs.Prelude.{◌≡◌, ◌-◌, ◌<◌};
+ghost use Rattle.std.specs.Iterator.{at_most};
+ghost use Rattle.bench_text.specs.Inputs.{ComesFrom};
+
+use crate::line::Line;
+use crate::read::read_line;
+use crate::words::without_newline;
+use std::alloc::Global;
+use std::io::{self, BufRead};
+
+/// The next line, and what it says; none at the end of the input.
+fn next_line<R: BufRead>(heap: Global, reader: &mut R) -> Option<io::Result<Line>>
+    ensures from_the_input { ComesFrom (R.remaining reader.old) result (R.remaining reader.new) }
+{
+    let mut text = Vec::new(heap);
+    match reader.read_until(b'\n', &mut text) {
+        Ok(0) => None,
+        Ok(_) => match read_line(heap, without_newline(text.as_slice())) {
+            Ok(line) => Some(Ok(line)),
+            Err(error) => Some(Err(io::Error::from(error))),
+        },
+        Err(error) => Some(Err(error)),
+    }
+}
+
+/// The lines of an input, each with what it says.
+#[derive(Drop)]
+pub struct Lines<R> {
+    heap: Global,
+    reader: R,
+    /// How many more are read at most; no input has so many.
+    left: u64,
+}
+
+impl<R: BufRead + Drop> Iterator for Lines<R> {
+    type Item = io::Result<Line>;
+
+    ghost next_gives = { λ s r t. 0 < s.left → ComesFrom (R.remaining s.reader) r (R.remaining t.reader) × (t.left ≡ s.left - 1) };
+
+    ghost remaining = { λ s. at_most s.left };
+
+    fn next(&mut self) -> Option<io::Result<Line>> {
+        self.left = self.left.checked_sub(1)?;
+        next_line(self.heap, &mut self.reader)
+    }
+}
+
+impl<R: BufRead> Lines<R> {
+    /// All the lines of an input.
+    pub fn of(heap: Global, reader: R) -> Lines<R>
+        ensures from_its_start { result.reader ≡ reader }
+        ensures to_its_end { result.left ≡ 18446744073709551615 }
+    {
+        Lines {
+            heap,
+            reader,
+            left: u64::MAX,
+        }
+    }
+}
