@@ -22,7 +22,9 @@ pub fn write_outcome(line: &mut String, outcome: Outcome) -> Result<(), AllocErr
 {
     match outcome {
         Outcome::Submitted { answer: Ok(number) } => write!(line, "accepted {number}"),
-        Outcome::Delivered { answer: Ok(receipt) } => write!(line, "{receipt}"),
+        Outcome::Delivered {
+            answer: Ok(receipt),
+        } => write!(line, "{receipt}"),
         Outcome::Ticked => write!(line, "ticked"),
         Outcome::Sampled { answer: Ok(true) } => write!(line, "trouble"),
         Outcome::Sampled { answer: Ok(false) } => write!(line, "good"),

@@ -12,6 +12,7 @@ use machine::equipment::bench;
 use std::alloc::{AllocError, Global};
 
 /// A wire, two processors of delay 0; Still, Moving, and Band 100 to 200.
+#[tactic(auto, unfolding(machine::specs::Calls::answers_to))]
 pub fn work_the_bench(heap: Global, calls: &[Call]) -> Result<Vec<Answer>, AllocError>
     ensures answers_of_the_machine { IfOk result (λ answers. map answer_of answers.items ≡ answers_to bench (map call_of calls.now)) }
     ensures worked_cases { IfOk result (λ answers. AnsweredSo (map call_of calls.now) (map answer_of answers.items)) }

@@ -5,8 +5,8 @@ ghost use Rattle.console.specs.Benches.{bench_of};
 use crate::console::Console;
 use links::processor::Processor;
 use links::wire::Wire;
-use machine::equipment::BenchWatch;
 use std::marker::Model;
+use watches::bench::BenchWatch;
 
 pub mod calls;
 

@@ -6,8 +6,7 @@ use Rattle.records.specs.declared.fault.Fault.{Fault}
 use Rattle.records.specs.declared.fault.FaultKind.TheVariants.{InvalidParameter, InvalidProcedure, InvalidStep, EmptyProcedure}
 use Rattle.records.specs.declared.step.Step.{Step}
 use Rattle.records.specs.Faults.{fault_of}
-use Rattle.telecommands.specs.Fields.{Settings}
-use Rattle.telecommands.specs.Fields.{Steps}
+use Rattle.telecommands.specs.Fields.{Settings, Steps}
 use Rattle.machine.specs.declared.state.Action.{Action}
 use Rattle.machine.specs.declared.state.Procedure.{Procedure}
 use Rattle.machine.specs.Desks.{Desk, procedure_at}

@@ -3,6 +3,7 @@ ghost use Rattle.std.specs.Prelude.{◌≡◌};
 ghost use Rattle.desks.specs.Logs.{fault_in};
 ghost use Rattle.machine.specs.Procedures.{illegal_fault, written_to};
 
+use desks::items::set_item;
 use records::fault::{Fault, FaultKind};
 use telecommands::packet::Setting;
 
@@ -15,10 +16,7 @@ pub fn write_in_turn(parameters: &mut [u32], nop: u16, settings: &[Setting]) -> 
         if setting.id == 0 || setting.id > nop {
             return Err(FaultKind::IllegalParameterId.fault(u32::from(setting.id)));
         }
-        let place = usize::from(setting.id) - 1;
-        if place < parameters.len() {
-            parameters[place] = setting.value;
-        }
+        set_item(parameters, usize::from(setting.id) - 1, setting.value);
     }
     Ok(())
 }

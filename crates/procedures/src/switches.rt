@@ -5,6 +5,7 @@ ghost use Rattle.machine.specs.Procedures.{Outcome, setting};
 ghost use Rattle.procedures.specs.Judging.{switched, setting_status, setting_switch};
 
 use desks::desk::Desk;
+use desks::items::set_item;
 use machine::state::LinkStatus;
 use records::fault::{Fault, FaultKind};
 use watches::watch::has_function;
@@ -41,11 +42,11 @@ fn set_switch(desk: &mut Desk, width: u32, sid: u16, value: u32) -> Result<(), F
     if !has_function(width, u32::from(sid)) {
         return Err(FaultKind::InvalidWatched.fault(u32::from(sid)));
     }
-    let on = is_on(value)?;
-    let place = usize::from(sid) - 1;
-    if place < desk.switches.len() {
-        desk.switches[place] = on;
-    }
+    set_item(
+        &mut desk.switches,
+        usize::from(sid) - 1,
+        is_on(value)?,
+    );
     Ok(())
 }
 

@@ -8,6 +8,7 @@ ghost use Rattle.procedures.specs.Judging.{fitted, judged_id, loaded};
 use crate::settings::write_in_turn;
 use crate::steps::procedure_of;
 use desks::desk::Desk;
+use desks::items::set_item;
 use machine::state::Procedure;
 use records::fault::{Fault, FaultKind};
 use telecommands::packet::{Settings, Steps};
@@ -39,11 +40,11 @@ fn loaded(desk: &Desk, id: u16) -> Result<Procedure, Fault>
 fn set_procedure(desk: &mut Desk, id: u16, procedure: Option<Procedure>)
     ensures only_this_one { desk.new ≡ with_procedure desk.old id procedure }
 {
-    let place = usize::from(id.saturating_sub(1));
-    let procedures = &mut desk.procedures[..];
-    if place < procedures.len() {
-        procedures[place] = procedure;
-    }
+    set_item(
+        &mut desk.procedures,
+        usize::from(id.saturating_sub(1)),
+        procedure,
+    );
 }
 
 pub fn load(desk: &mut Desk, width: u32, id: u16, nop: u16, steps: &Steps) -> Result<(), Fault>

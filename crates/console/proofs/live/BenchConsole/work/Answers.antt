@@ -3,12 +3,16 @@ use mathlib.Core.Logic.{∥∥₁_map}
 use Rattle.machine.specs.Balance.{view_of, Balanced, RunTied}
 use Rattle.machine.specs.Runs.{History, Ran}
 use Rattle.console.specs.Benches.{bench_of}
-use Rattle.console.specs.Consoles.{call_of, answer_of}
+use Rattle.console.specs.Consoles.{call_of, answer_of, Steps}
 use Rattle.console.specs.Lives.{Bench}
 use Rattle.console.proofs.live.BenchConsole.work.Goals as goal
 
 pub invariant_of-self-inside : goal.invariant_of-self-inside
 invariant_of-self-inside c = (∥∥₁_map c.self.inside.ran (λ p. (_ ∷ p.0, c.work.ensures.goes_on_balanced.run p.0 p.1)), tt)
+
+pub returns-clause-as_the_machine_does : goal.returns-clause-as_the_machine_does
+returns-clause-as_the_machine_does c =
+    subst (λ (m : Bench). Steps m (call_of c.args.call.now) (answer_of c.work.result) (bench_of c.work.new.self)) c.self.view_is c.work.ensures.as_the_machine_does
 
 pub returns-clause-balanced : goal.returns-clause-balanced
 returns-clause-balanced c =
