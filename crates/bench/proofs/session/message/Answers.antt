@@ -1,4 +1,4 @@
-use Rattle.std.proofs.Common.{◌≡◌, ℕ, map, get_or, vec_items, IfOk, sym, refl, subst, rules, tests, arith}
+use Rattle.std.proofs.Common.{◌≡◌, ℕ, map, get_or, sym, refl, rules, tests, arith}
 use Rattle.std.specs.List.{range_with_len}
 use Rattle.std.proofs.lemmas.Iterator.{YieldsList-from_range, YieldsList-from_map, items_from_collect}
 use Rattle.std.proofs.lemmas.List.FromFn.{fill_by_all}
