@@ -1,5 +1,5 @@
 // Reading a line of a call list.
-ghost use Rattle.std.specs.Prelude.{◌≡◌, not, length, IfOk, ◌==◌};
+ghost use Rattle.std.specs.Prelude.{◌≡◌, IfOk};
 ghost use Rattle.bench_text.specs.Lines.{said_by, is_skipped, alone, submitted, delivered, sampled, asked, line_of, read_line};
 ghost use Rattle.bench_text.specs.Numbers.{number_of, bytes_of};
 ghost use Rattle.bench_text.specs.Words.{first_word, after_word};
@@ -19,11 +19,16 @@ fn is_skipped(word: &[u8]) -> bool
     }
 }
 
-fn has_word(text: &[u8]) -> bool
-    ensures a_word_follows { result ≡ not (length (first_word text.now) == 0) }
+/// A line, if no further word follows.
+fn alone(line: Line, rest: &[u8]) -> Line
+    ensures unless_a_word_follows { said_by result ≡ alone (said_by line) rest.now }
 {
-    let (word, _) = split_word(text);
-    !word.is_empty()
+    let (word, _) = split_word(rest);
+    if word.is_empty() {
+        line
+    } else {
+        Line::Unreadable
+    }
 }
 
 fn read_submit(heap: Global, rest: &[u8]) -> Result<Line, AllocError>
@@ -53,26 +58,22 @@ fn read_sample(rest: &[u8]) -> Line
 {
     let (function, rest) = split_word(rest);
     let (value, rest) = split_word(rest);
-    if has_word(rest) {
-        return Line::Unreadable;
-    }
-    match (number(function), number(value)) {
+    let line = match (number(function), number(value)) {
         (Some(function), Some(value)) => Line::Call(Call::Sample { function, value }),
         _ => Line::Unreadable,
-    }
+    };
+    alone(line, rest)
 }
 
 fn read_message(rest: &[u8]) -> Line
     ensures link_follows { said_by result ≡ alone (asked (number_of (first_word rest.now))) (after_word rest.now) }
 {
     let (link, rest) = split_word(rest);
-    if has_word(rest) {
-        return Line::Unreadable;
-    }
-    match number(link) {
+    let line = match number(link) {
         Some(link) => Line::Message { link },
         None => Line::Unreadable,
-    }
+    };
+    alone(line, rest)
 }
 
 /// What a line says, without its newline.
@@ -90,21 +91,13 @@ pub fn read_line(heap: Global, text: &[u8]) -> Result<Line, AllocError>
         return read_deliver(heap, rest);
     }
     if is_word(word, b"tick") {
-        return Ok(if has_word(rest) {
-            Line::Unreadable
-        } else {
-            Line::Call(Call::Tick)
-        });
+        return Ok(alone(Line::Call(Call::Tick), rest));
     }
     if is_word(word, b"sample") {
         return Ok(read_sample(rest));
     }
     if is_word(word, b"collect") {
-        return Ok(if has_word(rest) {
-            Line::Unreadable
-        } else {
-            Line::Call(Call::Collect)
-        });
+        return Ok(alone(Line::Call(Call::Collect), rest));
     }
     if is_word(word, b"message") {
         return Ok(read_message(rest));

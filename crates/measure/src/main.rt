@@ -8,7 +8,7 @@ use crate::packets::{
 use executive::executive::Executive;
 use links::processor::Processor;
 use links::wire::Wire;
-use machine::equipment::{BenchWatch, bench};
+use machine::equipment::bench;
 use std::env;
 use std::mem::size_of;
 use std::time::{Duration, Instant};

@@ -42,11 +42,7 @@ fn set_switch(desk: &mut Desk, width: u32, sid: u16, value: u32) -> Result<(), F
     if !has_function(width, u32::from(sid)) {
         return Err(FaultKind::InvalidWatched.fault(u32::from(sid)));
     }
-    set_item(
-        &mut desk.switches,
-        usize::from(sid) - 1,
-        is_on(value)?,
-    );
+    set_item(&mut desk.switches, usize::from(sid) - 1, is_on(value)?);
     Ok(())
 }
 

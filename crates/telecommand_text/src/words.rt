@@ -87,29 +87,17 @@ pub fn write_telecommand<W: fmt::Write>(
         }
         Telecommand::Load { id, nop, steps } => {
             write!(f, "load procedure {id}: NoP {nop}, steps: ")?;
-            write_steps(steps.items.get(..steps.count).unwrap_or(&steps.items), f)
+            write_steps(steps.as_slice(), f)
         }
         Telecommand::Delete { id } => write!(f, "delete procedure {id}"),
         Telecommand::Start { id, settings } => {
             write!(f, "start procedure {id}")?;
-            write_settings(
-                settings
-                    .items
-                    .get(..settings.count)
-                    .unwrap_or(&settings.items),
-                f,
-            )
+            write_settings(settings.as_slice(), f)
         }
         Telecommand::Stop { id } => write!(f, "stop procedure {id}"),
         Telecommand::Set { id, settings } => {
             write!(f, "set parameters of procedure {id}")?;
-            write_settings(
-                settings
-                    .items
-                    .get(..settings.count)
-                    .unwrap_or(&settings.items),
-                f,
-            )
+            write_settings(settings.as_slice(), f)
         }
     }
 }

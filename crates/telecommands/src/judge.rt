@@ -1,11 +1,11 @@
 // What is wrong with a packet: its header, its check word, its type, the shape of its data.
-ghost use Rattle.std.specs.Prelude.{◌≡◌, slice_index};
+ghost use Rattle.std.specs.Prelude.{◌≡◌};
 ghost use Rattle.std.specs.Option.{option_map};
 ghost use Rattle.std.specs.Result.{result_err};
 ghost use Rattle.records.specs.declared.refusal.Refusal.TheVariants.{Header};
 ghost use Rattle.telecommands.specs.Frames.{check_word_refusal, known, shape_refusal};
 ghost use Rattle.telecommands.specs.Headers.{wrong_place, computed_word};
-ghost use Rattle.telecommands.specs.Types.{type_of, data_fits};
+ghost use Rattle.telecommands.specs.Types.{data_fits};
 
 use crate::frame::{Frame, LEAST_BYTES};
 use crate::packet_type::PacketType;
@@ -60,11 +60,9 @@ impl<'a> Frame<'a> {
     }
 
     pub fn packet_type(&self) -> Result<PacketType, Refusal>
-        ensures one_of_seven { result ≡ known (type_of (slice_index self.now.bytes.now 7) (slice_index self.now.bytes.now 8)) self.now.bytes.now }
+        ensures one_of_seven { result ≡ known self.now.bytes.now }
     {
-        let service = byte_at(self.bytes, 7);
-        let subtype = byte_at(self.bytes, 8);
-        PacketType::of(service, subtype).ok_or(Refusal::UnknownType { service, subtype })
+        PacketType::try_from((byte_at(self.bytes, 7), byte_at(self.bytes, 8)))
     }
 
     /// Whether the data has the length that its type asks for.

@@ -1,5 +1,5 @@
-use Rattle.std.proofs.Common.{◌≡◌, ℕ, ◌+◌, ◌-◌, true, false, List, get_or, drop, set, Some, sym, ap, ◌∙◌, rules}
-use Rattle.std.proofs.lemmas.List.{at_drop_more, at_drop_all, set_past}
+use Rattle.std.proofs.Common.{◌≡◌, ℕ, ◌+◌, true, false, List, get_or, drop, Some, sym, ap, ◌∙◌, rules}
+use Rattle.std.proofs.lemmas.List.{at_drop_more, at_drop_all}
 use Rattle.records.specs.declared.fault.Fault.{Fault}
 use Rattle.records.specs.declared.fault.FaultKind.TheVariants.{IllegalParameterId}
 use Rattle.records.specs.Faults.{fault_of}
@@ -7,7 +7,6 @@ use Rattle.telecommands.specs.declared.packet.Setting.{Setting}
 use Rattle.machine.specs.Procedures.{Written, illegal_fault, written_to}
 use Rattle.procedures.proofs.Turns.{is_parameter, written_none, written_stops, written_on}
 use Rattle.procedures.proofs.settings.write_in_turn.Goals as goal
-use Rattle.procedures.proofs.settings.write_in_turn.Goals.{then-place-parameters, else-place-parameters}
 
 pub returns-then-setting-eq0 : goal.returns-then-setting-eq0
 returns-then-setting-eq0 c =
@@ -33,8 +32,6 @@ loop-setting-preserved c =
     let more = c.loop-setting.invariant
     ∙ at_drop_more (written_to c.args.nop c.loop-setting.parameters) xs i (record { id = 0; value = 0 }) c.loop-setting-test.true
     ∙ written_on c.args.nop c.loop-setting.parameters s (drop (i + 1) xs) e in
-    let kept : c.if-place-parameters.parameters ≡ set c.loop-setting.parameters (s.id - 1) s.value =
-    elim c.if-place-parameters.branch [ then-place-parameters w ↦ search rules | else-place-parameters w ↦ search (rules, set_past) ] in
     cc
 
 pub returns : goal.returns
