@@ -14,6 +14,7 @@ use machine::equipment::bench;
 use std::alloc::{AllocError, Global};
 
 /// Works the calls of a shift on a wire, two processors of delay 0; Still, Moving, and Band 100 to 200.
+#[tactic(auto, unfolding(machine::specs::Calls::answers_to))]
 pub fn work_bench(heap: Global, calls: &[Call]) -> Result<Shift, AllocError>
     ensures answers_of_the_bench { IfOk result (λ s. map answer_of s.answers.items ≡ answers_to bench_machine (map call_of calls.now)) }
     ensures balanced { IfOk result (λ s. Closed wire_kind processor_kind processor_kind bench_watch (history_of (map call_of calls.now) (map answer_of s.answers.items)) s.totals) }
