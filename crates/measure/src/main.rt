@@ -12,6 +12,7 @@ use machine::equipment::bench;
 use std::env;
 use std::mem::size_of;
 use std::time::{Duration, Instant};
+use watches::bench::BenchWatch;
 
 mod packets;
 
