@@ -20,9 +20,7 @@ fn write_step<W: fmt::Write>(step: &Step, f: &mut fmt::Formatter<W>) -> fmt::Res
 {
     let Step { b, w, u, v, .. } = *step;
     match step.operation() {
-        Some(Operation::Send) => {
-            write!(f, "SEND link {b} command {w} SID {u} parameter {v}")
-        }
+        Some(Operation::Send) => { write!(f, "SEND link {b} command {w} SID {u} parameter {v}") }
         Some(Operation::Wait) if b == 0 && u == 0 && v == 0 => write!(f, "WAIT {w}"),
         Some(Operation::Expect) if w == 0 && u == 0 && v == 0 => write!(f, "EXPECT function {b}"),
         _ => write_raw_step(step, f),

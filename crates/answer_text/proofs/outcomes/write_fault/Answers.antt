@@ -1,4 +1,4 @@
-use Rattle.std.proofs.Common.{rules, ◌≡◌, ◌++◌, codes, decimal, String, ℕ, List, sym, ap, ◌∙◌, append_assoc, arith}
+use Rattle.std.proofs.Common.{rules, ◌≡◌, ◌++◌, codes, decimal, append_assoc}
 use Rattle.std.specs.Prelude.{string_bytes}
 use Rattle.records.specs.Faults.{fault_number, fault_name, class_number}
 use Rattle.answer_text.proofs.outcomes.write_fault.Goals as goal

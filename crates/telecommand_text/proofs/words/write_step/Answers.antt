@@ -1,4 +1,4 @@
-use Rattle.std.proofs.Common.{◌≡◌, ◌≢◌, Bool, false, cond, eqb, sym, ap, ◌∙◌, arith, rules}
+use Rattle.std.proofs.Common.{◌≡◌, ◌≢◌, Bool, false, cond, eqb, sym, ap, ◌∙◌, arith}
 use Rattle.std.proofs.lemmas.Bool.{ne_eqb}
 use Rattle.std.proofs.lemmas.Bool.Decides.{nat_tests}
 use Rattle.std.proofs.Output.{has_written_of_eq}
@@ -22,7 +22,7 @@ returns-in_default g c =
     let s : Step = c.args.step.now in
     let told = c.operation.ensures.of_its_number in
     let raw : raw_step_text s ≡ step_text s = elim c.in_default.branch [
-      in_default-via-in-Some-Wait+then-b-eq0+then-u-eq0+else-v-eq0 w ↦ raw_is s (grind (arith, nat_tests)) (grind (arith, nat_tests)) (grind (arith, nat_tests))
+      | in_default-via-in-Some-Wait+then-b-eq0+then-u-eq0+else-v-eq0 w ↦ raw_is s (grind (arith, nat_tests)) (grind (arith, nat_tests)) (grind (arith, nat_tests))
       | in_default-via-in-Some-Wait+then-b-eq0+else-u-eq0 w ↦ raw_is s (grind (arith, nat_tests)) (grind (arith, nat_tests)) (grind (arith, nat_tests))
       | in_default-via-in-Some-Wait+else-b-eq0 w ↦ raw_is s (grind (arith, nat_tests)) (grind (arith, nat_tests)) (grind (arith, nat_tests))
       | in_default-via-in-Some-Expect+then-w-eq0+then-u-eq0-2+else-v-eq0-2 w ↦ raw_is s (grind (arith, nat_tests)) (grind (arith, nat_tests)) (grind (arith, nat_tests))
