@@ -1,7 +1,7 @@
 // The five calls of the executive, with what each carries.
 
 /// One call; `B` holds the bytes of a packet or of what came over a link.
-#[derive(Drop)]
+#[derive(Clone, Copy, Drop)]
 pub enum Call<B> {
     /// A telecommand packet from the console.
     Submit { packet: B },
