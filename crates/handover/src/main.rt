@@ -13,6 +13,7 @@ mod words;
 
 fn judge_sheet<R: BufRead + Drop>(rt: &HostRuntime, reader: R) -> anyhow::Result<()> {
     let mut totals = Totals::new();
+    // Kept: not the count of the lines that are read, since only those that count have a place.
     let mut place = 0u64;
     for line in Lines::of(rt.alloc(), reader) {
         if let Some(verdict) = verdict(&line?) {

@@ -43,6 +43,7 @@ pub enum Action {
 #[derive(Clone, Copy)]
 pub struct Procedure {
     pub nop: u16,
+    // Kept beside `nop` and no list of that length: a telecommand gives it, and a value is read by its number in all 25.
     pub parameters: [u32; 25],
     pub actions: FixedList<Action, 28>,
 }

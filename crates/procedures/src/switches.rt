@@ -46,6 +46,7 @@ fn set_switch(desk: &mut Desk, width: u32, sid: u16, value: u32) -> Result<(), F
     Ok(())
 }
 
+// Kept: the activity is a number, since a packet may hold any, and for a trigger it is the ID of the command.
 /// Activity 1 sets a link's status, activity 2 a function on or off.
 pub fn set(desk: &mut Desk, width: u32, activity: u8, sid: u16, value: u32) -> Result<(), Fault>
     ensures by_the_activity { ◌≡◌ {A = Outcome} (record { desk = desk.new; fault = fault_in result }) (setting width desk.old activity sid value) }

@@ -39,6 +39,7 @@ pub enum FailureClass {
 }
 
 /// The step is 0 outside a run; code and detail are those of a NACK, else 0.
+// Kept: numbers that are 0 in place of options, since a report gives all six fields of every fault, zeros too.
 #[derive(Clone, Copy)]
 pub struct Fault {
     pub kind: FaultKind,

@@ -9,6 +9,7 @@ use crate::list::{CallList, Mark};
 use bench_text::line::Line;
 use std::alloc::{AllocError, Global};
 
+// Kept: no `From`, since a line that does not count has no mark.
 /// None for a line that does not count.
 fn mark_of(line: &Line) -> Option<Mark>
     ensures if_counted { result ≡ mark_of (said_by line.now) }

@@ -47,6 +47,7 @@ impl<T: Copy + Default, const N: usize> Queue<T, N> {
 
 impl<T: Copy, const N: usize> Queue<T, N> {
     /// Puts the newest behind the others. False where it has no room.
+    // Kept a bool, as the library's `insert` answers: there is no more to say of it, and no caller passes it on.
     pub fn put(&mut self, newest: T) -> bool
         ensures true_if_room { result ≡ nat_lt (length self.old) N }
         ensures behind_the_others { self.new ≡ after_put result self.old newest }

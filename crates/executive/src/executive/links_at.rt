@@ -17,14 +17,12 @@ impl<A: Link, B: Link, C: Link, W: Watch> Executive<A, B, C, W> {
     fn offer_at(&mut self, link: u8, command: Command, owner: Owner) -> Result<(), OfferRefusal>
         ensures as_the_link_answers { result ≡ offer_answer (means_at (meaning A.Link B.Link C.Link W.Watch self.old) link) }
         ensures that_link_only { meaning A.Link B.Link C.Link W.Watch self.new ≡ offered_at (meaning A.Link B.Link C.Link W.Watch self.old) link command owner }
-        ensures desk_as_it_was { self.new.desk ≡ self.old.desk }
     {
         at_link!(self, link, offer(command, owner))
     }
 
     pub(crate) fn abandon_at(&mut self, link: u8)
         ensures that_link_only { meaning A.Link B.Link C.Link W.Watch self.new ≡ abandoned_at (meaning A.Link B.Link C.Link W.Watch self.old) link }
-        ensures desk_as_it_was { self.new.desk ≡ self.old.desk }
     {
         at_link!(self, link, abandon())
     }
@@ -33,7 +31,6 @@ impl<A: Link, B: Link, C: Link, W: Watch> Executive<A, B, C, W> {
     pub(crate) fn send(&mut self, link: u8, command: Command, owner: Owner) -> Result<(), LinkFault>
         ensures blocked_before_offered { result ≡ send_answer (meaning A.Link B.Link C.Link W.Watch self.old) link }
         ensures that_link_only { meaning A.Link B.Link C.Link W.Watch self.new ≡ after_send (meaning A.Link B.Link C.Link W.Watch self.old) link command owner }
-        ensures desk_as_it_was { self.new.desk ≡ self.old.desk }
     {
         if self.desk.is_blocked(link) {
             return Err(LinkFault::Stopped { link });

@@ -18,7 +18,7 @@ returns-in_err-in_step g c =
     record {
       sent_or_its_fault = ap (λ (x : Result (Unit {0}) StepFault). finished_step x c.args.run sent) passed_on
           ∙ steps m sent c.send-answer.result (Err c.in_err-in_step.field-0.0) c.args.run c.args.link c.args.command is
-          c.send-answer.ensures.blocked_before_offered c.send-answer.ensures.that_link_only c.send-answer.ensures.desk_as_it_was;
+          c.send-answer.ensures.blocked_before_offered c.send-answer.ensures.that_link_only;
     }
 
 pub returns : goal.returns
@@ -32,5 +32,5 @@ returns g c =
     let is = sym c.in_ok-in_step.was ∙ c.in_step.ensures.fault_with_its_step ∙ ap (λ (k : ℕ). in_step k c.send-answer.result) c.standing.ensures.from_1 in
     record {
       sent_or_its_fault = opened ∙ more ∙ steps m sent c.send-answer.result (Ok c.in_ok-in_step.field-0) r c.args.link c.args.command is
-          c.send-answer.ensures.blocked_before_offered c.send-answer.ensures.that_link_only c.send-answer.ensures.desk_as_it_was;
+          c.send-answer.ensures.blocked_before_offered c.send-answer.ensures.that_link_only;
     }

@@ -19,7 +19,7 @@ returns-in-Ok g c =
     let after = c.send.ensures.that_link_only ∙ ap (λ (n : ℕ). after_send m c.args.link c.args.command (owner.Telecommand n)) c.number.ensures.its_own in
     record {
       pending_or_failed = told ∙ triggers m sent (Ok c.in-Ok.field-0) c.args.ticket.number c.args.link c.args.command
-          (sym c.in-Ok.is ∙ c.send.ensures.blocked_before_offered) after c.send.ensures.desk_as_it_was;
+          (sym c.in-Ok.is ∙ c.send.ensures.blocked_before_offered) after;
     }
 
 pub returns-in-Err : goal.returns-in-Err
@@ -32,5 +32,5 @@ returns-in-Err g c =
     let after = c.send.ensures.that_link_only ∙ ap (λ (n : ℕ). after_send m c.args.link c.args.command (owner.Telecommand n)) c.number.ensures.its_own in
     record {
       pending_or_failed = told ∙ fault ∙ triggers m sent (Err c.in-Err.fault) c.args.ticket.number c.args.link c.args.command
-          (sym c.in-Err.is ∙ c.send.ensures.blocked_before_offered) after c.send.ensures.desk_as_it_was;
+          (sym c.in-Err.is ∙ c.send.ensures.blocked_before_offered) after;
     }
