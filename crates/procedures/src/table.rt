@@ -1,8 +1,8 @@
 // The table of procedures: loading, deleting, parameters and the judging of a start.
-ghost use Rattle.std.specs.Prelude.{◌≡◌, cond};
+ghost use Rattle.std.specs.Prelude.{◌≡◌};
 ghost use Rattle.desks.specs.Logs.{fault_in};
 ghost use Rattle.machine.specs.Desks.{with_procedure};
-ghost use Rattle.machine.specs.Procedures.{Outcome, is_procedure, loading, deleting, writing, setting_parameters, starting};
+ghost use Rattle.machine.specs.Procedures.{Outcome, loading, deleting, writing, setting_parameters, starting};
 ghost use Rattle.procedures.specs.Judging.{fitted, judged_id, loaded};
 
 use crate::settings::write_in_turn;

@@ -1,5 +1,5 @@
 // The tick: the links in turn, then one step of the run.
-ghost use Rattle.std.specs.Prelude.{◌≡◌, ◌≤◌};
+ghost use Rattle.std.specs.Prelude.{◌≡◌};
 ghost use Rattle.machine.specs.Desks.{procedure_at};
 ghost use Rattle.machine.specs.Machine.{action_at, waited, sending, stepped, stepped_run, tick_answer, after_tick, with_desk};
 ghost use Rattle.machine.specs.Outcomes.{answer_in};
