@@ -3,7 +3,7 @@ ghost use Rattle.std.specs.Prelude.{◌≡◌, length, slice_index};
 ghost use Rattle.machine.specs.Calls.{told, submitted, delivered, ticked, sampled, collected, submit as submit_call, deliver as deliver_call, tick as tick_call, sample as sample_call, collect as collect_call};
 ghost use Rattle.machine.specs.Equipments.{made_of, FreshOf};
 ghost use Rattle.machine.specs.Machine.{message_of};
-ghost use Rattle.machine.specs.Outcomes.{answer_in, answer_of, handed_in};
+ghost use Rattle.machine.specs.Outcomes.{answer_in, answer_of, handed_answer};
 ghost use Rattle.machine.specs.Runs.{New};
 ghost use Rattle.console.specs.Consoles.{call_of, machine_of, Steps, GoesOn};
 
@@ -62,8 +62,8 @@ impl<A: Link, B: Link, C: Link, W: Watch> Console<A, B, C, W> {
     }
 
     pub fn collect(&mut self) -> answers::Answer<Option<Handed>>
-        ensures as_the_machine_does { Steps (machine_of A.Link B.Link C.Link W.Watch self.old) collect_call (told collected (handed_in result)) (machine_of A.Link B.Link C.Link W.Watch self.new) }
-        ensures goes_on_balanced { GoesOn (machine_of A.Link B.Link C.Link W.Watch self.old) collect_call (told collected (handed_in result)) (machine_of A.Link B.Link C.Link W.Watch self.new) }
+        ensures as_the_machine_does { Steps (machine_of A.Link B.Link C.Link W.Watch self.old) collect_call (told collected (handed_answer result)) (machine_of A.Link B.Link C.Link W.Watch self.new) }
+        ensures goes_on_balanced { GoesOn (machine_of A.Link B.Link C.Link W.Watch self.old) collect_call (told collected (handed_answer result)) (machine_of A.Link B.Link C.Link W.Watch self.new) }
     {
         self.executive.collect()
     }

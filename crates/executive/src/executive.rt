@@ -4,7 +4,8 @@ use links::link::Link;
 use turns::seat::Seat;
 use watches::watch::Watch;
 
-/// Asks the seat of a link by its number; above link 2 it is the last one's, which no rule asks.
+/// Asks the seat of a link by its number; a number above 2 is never asked, and would be the last one's.
+// Kept a match, once: the seats have three types, and a link has a constant, so that it can't be a `dyn`.
 macro_rules! at_link {
     ($executive:ident, $link:expr, $($asked:tt)+) => {
         match $link {

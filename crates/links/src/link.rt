@@ -37,6 +37,7 @@ pub trait Link {
     fn is_held(&self) -> bool
         ensures a_command_is_held { result ≡ is_some (kind.means (state self.now)).held };
 
+    // Kept: a length and one byte at a time, as the executive is asked for a message, so that no memory is lent.
     fn message_length(&self) -> usize
         ensures of_the_message { result ≡ length (kind.message (state self.now)) };
 

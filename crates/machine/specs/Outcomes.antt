@@ -25,8 +25,8 @@ told_of (Collected x) = collected (handing_of x)
 abbrev pub answer_in : {A : Type 0} → code_answer.Answer A → Answer A
 answer_in a = record { outcome = a.outcome; raised = a.raised; lost = a.lost }
 
-abbrev pub handed_in : code_answer.Answer (Option code.Handed) → Answer Handed
-handed_in a = record { outcome = handing_of a.outcome; raised = a.raised; lost = a.lost }
+abbrev pub handed_answer : code_answer.Answer (Option code.Handed) → Answer Handed
+handed_answer a = record { outcome = handing_of a.outcome; raised = a.raised; lost = a.lost }
 
 abbrev pub answer_of : code_answer.Answer Outcome → Answer Told
 answer_of a = told told_of (answer_in a)

@@ -28,7 +28,7 @@ pub enum FaultKind {
 /// What kind of failure a fault is; the number of each class is its discriminant.
 #[derive(Clone, Copy)]
 pub enum FailureClass {
-    /// The number has no class.
+    /// The number has no class. Kept a case: the table has an entry for every number, those of no fault too.
     NoClass = 0,
     /// A value of the telecommand is not allowed.
     InvalidData = 5,

@@ -5,16 +5,49 @@ ghost use Rattle.records.specs.Faults.{fault_number, fault_name, class_of, class
 use crate::fault::FailureClass::{InvalidData, LinkFailed, NoClass, WrongState};
 use crate::fault::{FailureClass, Fault, FaultKind};
 
-/// The failure class of each number; where there is no fault there is none.
+/// The failure class of each number.
+const CLASSES: [FailureClass; 34] = [
+    NoClass,
+    NoClass,
+    NoClass,
+    NoClass,
+    NoClass,
+    NoClass,
+    NoClass,
+    NoClass,
+    NoClass,
+    NoClass,
+    NoClass,
+    NoClass,
+    NoClass,
+    NoClass,
+    InvalidData,
+    InvalidData,
+    InvalidData,
+    InvalidData,
+    InvalidData,
+    WrongState,
+    WrongState,
+    LinkFailed,
+    InvalidData,
+    WrongState,
+    InvalidData,
+    InvalidData,
+    WrongState,
+    WrongState,
+    InvalidData,
+    WrongState,
+    WrongState,
+    LinkFailed,
+    LinkFailed,
+    LinkFailed,
+];
+
+/// The failure class of a number; past the table there is none.
 pub fn class_of(number: u8) -> FailureClass
     ensures by_the_table { result ≡ class_of number }
 {
-    match number {
-        14..=18 | 22 | 24 | 25 | 28 => InvalidData,
-        19 | 20 | 23 | 26 | 27 | 29 | 30 => WrongState,
-        21 | 31..=33 => LinkFailed,
-        _ => NoClass,
-    }
+    CLASSES.get(usize::from(number)).copied().unwrap_or(NoClass)
 }
 
 impl FailureClass {

@@ -2,6 +2,7 @@
 ghost use Rattle.std.specs.Prelude.{◌≡◌, min, length, take};
 
 /// The first `count` of its places, or all where it counts more.
+// Kept: no bound on the count, since a bound would refuse lists that callers may hand in.
 #[derive(Clone, Copy)]
 pub struct FixedList<T, const N: usize> {
     pub items: [T; N],

@@ -9,7 +9,6 @@ use crate::tally::Tally;
 use console::call::Answer;
 use machine::answers::{Handed, Outcome};
 use records::report::Stage;
-use std::ops::Add;
 
 fn stage_tally(stage: Stage) -> Tally
     ensures of_one_report { result ≡ stage_tally stage }
@@ -57,23 +56,19 @@ fn answer_tally(answer: &Answer) -> Tally
     }
 }
 
-impl Add for Tally {
-    type Output = Tally;
-
-    ghost can_add = { λ one other. Within one (2 ^ 126) × Within other (2 ^ 126) };
-
-    ghost add_gives = { λ one other sum. sum ≡ both_tallies one other };
-
-    fn add(self, other: Tally) -> Tally {
-        Tally {
-            accepted: self.accepted + other.accepted,
-            done: self.done + other.done,
-            failed: self.failed + other.failed,
-            sent: self.sent + other.sent,
-            raised: self.raised + other.raised,
-            collected: self.collected + other.collected,
-            lost: self.lost + other.lost,
-        }
+// Kept: no `Add`, since a tally is public and its `+` would ask of every caller that the sums fit.
+pub(crate) fn both(one: Tally, other: Tally) -> Tally
+    requires { (Within one (2 ^ 126)) × (Within other (2 ^ 126)) }
+    ensures each_sum { result ≡ both_tallies one other }
+{
+    Tally {
+        accepted: one.accepted + other.accepted,
+        done: one.done + other.done,
+        failed: one.failed + other.failed,
+        sent: one.sent + other.sent,
+        raised: one.raised + other.raised,
+        collected: one.collected + other.collected,
+        lost: one.lost + other.lost,
     }
 }
 
@@ -86,7 +81,7 @@ pub fn tally(answers: &[Answer]) -> Tally
     // Kept: the bound on the sums grows with the place of the answer, which a fold's closure does not know.
     let mut sum = Tally::default();
     for answer in answers {
-        sum = sum + answer_tally(answer);
+        sum = both(sum, answer_tally(answer));
     }
     sum
 }

@@ -8,7 +8,7 @@ ghost use Rattle.sheets.specs.Histories.{answers_in};
 ghost use Rattle.sheets.specs.Totals.{totals_of, Totalled, adds_up};
 
 use crate::pending::pending;
-use crate::tallies::tally;
+use crate::tallies::{both, tally};
 use crate::tally::Totals;
 use console::call::Answer;
 
@@ -19,7 +19,7 @@ pub fn totals(answers: &[Answer], rest: &[Answer]) -> Totals
 {
     let during = tally(answers);
     let after = tally(rest);
-    let all = during + after;
+    let all = both(during, after);
     Totals {
         accepted: during.accepted,
         done: all.done,

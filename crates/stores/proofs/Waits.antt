@@ -57,6 +57,9 @@ module _ {A : Type 0} (xs : List A) (s : Span) where
     fit_with_one_more : fits_in (length (set xs i x)) (with_one_more s) ≡ true
     fit_with_one_more = let same = length-set xs i x in grind (arith, nat_tests)
 
+    pub put_fits : fits_in (length (set xs i x)) (with_one_more s) ≡ fits_in (length xs) s
+    put_fits = fit_with_one_more ∙ sym fit_with_room
+
     pub put_waits : i ≡ rounded (length xs) (s.head + s.count) → waiting (set xs i x) (with_one_more s) ≡ waiting xs s ++ x ∷ []
     put_waits at =
         let below : s.count < length xs = grind (arith, nat_tests) in
@@ -71,6 +74,9 @@ module _ {A : Type 0} (xs : List A) (s : Span) where
 
     fit_without_first : fits_in (length xs) (without_first (length xs) s) ≡ true
     fit_without_first = grind (arith, nat_tests)
+
+    pub take_fits : fits_in (length xs) (without_first (length xs) s) ≡ fits_in (length xs) s
+    take_fits = fit_without_first ∙ sym fit_with_some
 
     pub take_waits : (x : A) → x ≡ get_or xs s.head x → waiting xs s ≡ x ∷ waiting xs (without_first (length xs) s)
     take_waits x read =

@@ -1,86 +1,56 @@
-// A queue in fixed memory, for every kind of record.
-ghost use Rattle.std.specs.Prelude.{◌≡◌, ◌≤◌, false, List, [], length, None, nat_lt};
+// A queue in lent places, for every kind of record. In a span that does not fit its places nothing waits, and there is no room.
+ghost use Rattle.std.specs.Prelude.{◌≡◌, ◌≤◌, false, [], length, None, nat_lt};
 ghost use Rattle.stores.specs.Queue.{fits_in, waiting, has_room, after_put, oldest, younger, places_after_put};
 
 use crate::span::Span;
-use std::marker::Model;
 
-/// At most `N` records that wait, oldest first. With no places, nothing waits and there is no room.
-#[derive(Drop)]
-pub struct Queue<T, const N: usize> {
-    places: [T; N],
-    span: Span,
+/// A span for a queue that begins empty.
+pub fn empty<T>(places: &[T]) -> Span
+    ensures nothing_waits { waiting places.now result ≡ [] }
+    ensures fits_if_any_place { fits_in (length places.now) result ≡ nat_lt 0 (length places.now) }
+{
+    Span { head: 0, count: 0 }
 }
 
-// Clauses see what waits, oldest first.
-impl<T, const N: usize> Model for Queue<T, N> {
-    ghost Value = { List T };
-
-    ghost view = { λ q. waiting q.places q.span };
-
-    ghost invariant = { λ q. (length q.places ≡ N) × (fits_in N q.span ≡ nat_lt 0 N) };
+/// How many wait.
+pub fn how_many<T>(places: &[T], span: Span) -> usize
+    ensures all_that_wait { result ≡ length (waiting places.now span) }
+    ensures at_most_theplaces { result ≤ length places.now }
+{
+    span.counted(places.len())
 }
 
-/// Writes the newest behind the last that waits. False where there is no room.
-fn write_behind<T: Copy>(places: &mut [T], span: Span, newest: T) -> bool
-    ensures true_if_room { result ≡ has_room places.old span }
-    ensures other_places_as_they_were { places.new ≡ places_after_put result places.old span newest }
+/// Puts the newest behind the others. False where it has no room.
+// Kept a bool, as the library's `insert` answers: there is no more to say of it, and no caller passes it on.
+pub fn put<T: Copy>(places: &mut [T], span: &mut Span, newest: T) -> bool
+    ensures true_if_room { result ≡ has_room places.old span.old }
+    ensures behind_the_others { waiting places.new span.new ≡ after_put result (waiting places.old span.old) newest }
+    ensures otherplaces_as_they_were { places.new ≡ places_after_put result places.old span.old newest }
+    ensures false_changes_nothing { result ≡ false → (places.new ≡ places.old) × (span.new ≡ span.old) }
+    ensures fits_as_before { fits_in (length places.new) span.new ≡ fits_in (length places.old) span.old }
 {
     let size = places.len();
     if !span.has_room(size) {
         return false;
     }
-    places[span.behind(size)] = newest;
+    let last = span.behind(size);
+    places[last] = newest;
+    span.count += 1;
     true
 }
 
-impl<T: Copy + Default, const N: usize> Queue<T, N> {
-    pub fn new() -> Queue<T, N>
-        ensures nothing_waits { result ≡ [] }
-    {
-        Queue {
-            places: [T::default(); N],
-            span: Span { head: 0, count: 0 },
-        }
+/// Takes the oldest.
+pub fn take<T: Copy>(places: &[T], span: &mut Span) -> Option<T>
+    ensures the_oldest { result ≡ oldest (waiting places.now span.old) }
+    ensures the_younger_wait { waiting places.now span.new ≡ younger (waiting places.now span.old) }
+    ensures none_changes_nothing { result ≡ None → span.new ≡ span.old }
+    ensures fits_as_before { fits_in (length places.now) span.new ≡ fits_in (length places.now) span.old }
+{
+    let size = places.len();
+    if span.counted(size) == 0 {
+        return None;
     }
-}
-
-impl<T: Copy, const N: usize> Queue<T, N> {
-    /// Puts the newest behind the others. False where it has no room.
-    // Kept a bool, as the library's `insert` answers: there is no more to say of it, and no caller passes it on.
-    pub fn put(&mut self, newest: T) -> bool
-        ensures true_if_room { result ≡ nat_lt (length self.old) N }
-        ensures behind_the_others { self.new ≡ after_put result self.old newest }
-        ensures false_changes_nothing { result ≡ false → self.new ≡ self.old }
-    {
-        let room = write_behind(&mut self.places, self.span, newest);
-        if room {
-            self.span.count += 1;
-        }
-        room
-    }
-
-    /// Takes the oldest.
-    pub fn take(&mut self) -> Option<T>
-        ensures the_oldest { result ≡ oldest self.old }
-        ensures the_younger_wait { self.new ≡ younger self.old }
-        ensures none_changes_nothing { result ≡ None → self.new ≡ self.old }
-    {
-        if self.span.counted(N) == 0 {
-            return None;
-        }
-        let first = self.places[self.span.head];
-        self.span = self.span.without_first(N);
-        Some(first)
-    }
-}
-
-impl<T, const N: usize> Queue<T, N> {
-    /// How many wait.
-    pub fn len(&self) -> usize
-        ensures all_that_wait { result ≡ length self.now }
-        ensures at_most_the_places { result ≤ N }
-    {
-        self.span.counted(N)
-    }
+    let first = places[span.head];
+    *span = span.without_first(size);
+    Some(first)
 }

@@ -10,7 +10,7 @@ pub const LEAST_BYTES: usize = 12;
 
 const MOST_BYTES: usize = 248;
 
-/// A packet that is neither too short nor too long, and as long as it says.
+/// A packet whose length was judged: it is neither too short nor too long.
 #[derive(Clone, Copy)]
 pub struct Frame<'a> {
     pub bytes: &'a [u8],

@@ -15,6 +15,7 @@ pub fn see_in_turn<W: Watch, const N: usize>(
     ensures answers { result ≡ answers_in_turn W.kind (W.state watch.old) function values.entry }
     ensures after { W.state watch.new ≡ state_in_turn W.kind (W.state watch.old) function values.entry }
 {
+    // Kept: a `map` whose closure changes the watch leaves no word of the watch afterwards.
     let mut answers = [None; N];
     for (place, value) in values.iter().enumerate() {
         answers[place] = watch.see(function, *value);

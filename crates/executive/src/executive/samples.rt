@@ -1,7 +1,7 @@
 // Deliver, sample and collect.
 ghost use Rattle.std.specs.Prelude.{◌≡◌, is_some};
 ghost use Rattle.machine.specs.Machine.{means_at, received_at, deliver_answer, after_deliver, sample_refusal, sample_answer, after_sample, collect_answer, after_collect};
-ghost use Rattle.machine.specs.Outcomes.{answer_in, handed_in};
+ghost use Rattle.machine.specs.Outcomes.{answer_in, handed_answer};
 ghost use Rattle.links.specs.Meaning.{receipt};
 ghost use Rattle.executive.specs.Meaning.{meaning};
 ghost use Rattle.executive.specs.Samples.{judged, counted};
@@ -103,7 +103,7 @@ impl<A: Link, B: Link, C: Link, W: Watch> Executive<A, B, C, W> {
 
     /// Hands out the oldest event, else the oldest report.
     pub fn collect(&mut self) -> Answer<Option<Handed>>
-        ensures answer { handed_in result ≡ collect_answer (meaning A.Link B.Link C.Link W.Watch self.old) }
+        ensures answer { handed_answer result ≡ collect_answer (meaning A.Link B.Link C.Link W.Watch self.old) }
         ensures after { meaning A.Link B.Link C.Link W.Watch self.new ≡ after_collect (meaning A.Link B.Link C.Link W.Watch self.old) }
     {
         Answer::quiet(self.desk.log.take())

@@ -7,16 +7,16 @@ use Rattle.sheets.specs.Tallies.{tally_of, Tallied}
 use Rattle.sheets.proofs.Tallying.{tally_more, within_both, within_more, tallied}
 use Rattle.sheets.proofs.tallies.tally.Goals as goal
 
-pub add-sum-requires : goal.add-sum-requires
-add-sum-requires c = (within_more _ _ _ (omega arith) c.loop-answer.invariant.1, within_more _ _ _ (omega arith) c.answer_tally.ensures.in_32_bits)
+pub both-sum-requires : goal.both-sum-requires
+both-sum-requires c = (within_more _ _ _ (omega arith) c.loop-answer.invariant.1, within_more _ _ _ (omega arith) c.answer_tally.ensures.in_32_bits)
 
 pub loop-answer-init : goal.loop-answer-init
 loop-answer-init c = (search rules, record { accepted = omega arith; done = omega arith; failed = omega arith; sent = omega arith; raised = omega arith; collected = omega arith; lost = omega arith })
 
 pub loop-answer-preserved : goal.loop-answer-preserved
 loop-answer-preserved c = (
-  tally_more c.args.answers.now c.loop-answer.answer-index _ _ _ _ c.loop-answer-test.true c.loop-answer.invariant.0 c.answer_tally.ensures.of_one_answer c.add-sum.ensures,
-  within_more _ (c.loop-answer.answer-index * 4294967295 + 4294967295) _ (omega arith) (within_both _ _ _ _ _ c.add-sum.ensures c.loop-answer.invariant.1 c.answer_tally.ensures.in_32_bits),
+  tally_more c.args.answers.now c.loop-answer.answer-index _ _ _ _ c.loop-answer-test.true c.loop-answer.invariant.0 c.answer_tally.ensures.of_one_answer c.both-sum.ensures.each_sum,
+  within_more _ (c.loop-answer.answer-index * 4294967295 + 4294967295) _ (omega arith) (within_both _ _ _ _ _ c.both-sum.ensures.each_sum c.loop-answer.invariant.1 c.answer_tally.ensures.in_32_bits),
 )
 
 pub returns : goal.returns

@@ -1,7 +1,7 @@
 use Rattle.std.proofs.Common.{rules}
 use Rattle.std.proofs.lemmas.Bool.Decides.{nat_tests}
 use Rattle.stores.proofs.Waits.{none_wait}
-use Rattle.stores.proofs.queue.Queue.new.Goals as goal
+use Rattle.stores.proofs.queue.empty.Goals as goal
 
 pub returns : goal.returns
 returns g c = search (rules, none_wait, nat_tests)
