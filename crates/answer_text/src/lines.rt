@@ -6,7 +6,7 @@ ghost use Rattle.answer_text.specs.Lines.{counts_text, answer_line, message_line
 
 use crate::hex::write_hex;
 use crate::outcomes::write_outcome;
-use machine::answers::Outcome;
+use machine::answers::{Answer, Outcome};
 use std::alloc::AllocError;
 
 /// The end of every line.
@@ -30,15 +30,13 @@ fn write_message_text(line: &mut String, bytes: &[u8]) -> Result<(), AllocError>
 pub fn write_answer(
     line: &mut String,
     place: u64,
-    outcome: Outcome,
-    raised: u32,
-    lost: u32,
+    answer: Answer<Outcome>,
 ) -> Result<(), AllocError>
-    ensures place_answer_and_counts { Added result (answer_line place (told_of outcome) raised lost) line.old line.new }
+    ensures place_answer_and_counts { Added result (answer_line place (told_of answer.outcome) answer.raised answer.lost) line.old line.new }
 {
     write!(line, "{place} ")?;
-    write_outcome(line, outcome)?;
-    write_counts(line, raised, lost)
+    write_outcome(line, answer.outcome)?;
+    write_counts(line, answer.raised, answer.lost)
 }
 
 /// The answer to the question what a link would send now.

@@ -6,7 +6,6 @@ ghost use Rattle.bench.specs.Sessions.{place_after, after_line, printed};
 
 use answer_text::lines::{write_answer, write_message, write_unreadable};
 use bench_text::line::Line;
-use console::call::Answer;
 use console::live::BenchConsole;
 use std::alloc::{AllocError, Global};
 
@@ -48,12 +47,8 @@ pub fn respond(
             write_message(text, place, bytes.as_slice())?;
         }
         Line::Call(call) => {
-            let Answer {
-                outcome,
-                raised,
-                lost,
-            } = console.work(&call);
-            write_answer(text, place, outcome, raised, lost)?;
+            let answer = console.work(&call);
+            write_answer(text, place, answer)?;
         }
     }
     Ok(())

@@ -77,6 +77,7 @@ fn read_message(rest: &[u8]) -> Line
 }
 
 /// What a line says, without its newline.
+// Kept: tests of whole words; a match over the words has a path for each of their letters, and its proof did not close.
 pub fn read_line(heap: Global, text: &[u8]) -> Result<Line, AllocError>
     ensures by_its_words { IfOk result (λ line. said_by line ≡ read_line text.now) }
 {

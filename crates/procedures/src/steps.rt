@@ -1,6 +1,8 @@
 // The steps of a procedure, judged when it is loaded.
-ghost use Rattle.std.specs.Prelude.{◌≡◌, ◌≤◌, not, length, replicate, is_some};
+ghost use Rattle.std.specs.Prelude.{◌≡◌, ◌+◌, ◌<◌, ◌≤◌, not, length, replicate, is_some};
 ghost use Rattle.std.specs.List.{position};
+ghost use Rattle.records.specs.declared.fault.FaultKind.TheVariants.{InvalidStep};
+ghost use Rattle.records.specs.Faults.{fault_of};
 ghost use Rattle.machine.specs.Procedures.{action_of};
 ghost use Rattle.machine.specs.declared.state.Action.TheVariants.{Wait};
 ghost use Rattle.procedures.specs.Judging.{action_at, actions_from, judged_steps};
@@ -68,6 +70,14 @@ impl Limits {
     }
 }
 
+/// The fault of the first bad step; steps are numbered from 1.
+fn bad_step(place: usize) -> Fault
+    requires { place < 28 }
+    ensures numbered_from_1 { result ≡ fault_of InvalidStep (place + 1) }
+{
+    FaultKind::InvalidStep.fault(place as u32 + 1)
+}
+
 /// The procedure that good steps make, or a fault with the number of the first bad one.
 pub fn procedure_of(width: u32, nop: u16, steps: &Steps) -> Result<Procedure, Fault>
     ensures all_good_or_the_first_bad { result ≡ judged_steps width nop steps.now }
@@ -76,7 +86,7 @@ pub fn procedure_of(width: u32, nop: u16, steps: &Steps) -> Result<Procedure, Fa
     let count = steps.count;
     let steps = steps.as_slice();
     if let Some(place) = limits.first_bad(steps) {
-        return Err(FaultKind::InvalidStep.fault(place as u32 + 1));
+        return Err(bad_step(place));
     }
     let items = limits.actions(steps);
     Ok(Procedure {

@@ -1,5 +1,5 @@
 // What a packet of a known type says, field by field.
-ghost use Rattle.std.specs.Prelude.{◌≡◌, ◌+◌, ◌*◌, ◌≤◌, true, length};
+ghost use Rattle.std.specs.Prelude.{◌≡◌, ◌+◌, ◌*◌, ◌%◌, ◌≤◌, true, length};
 ghost use Rattle.octets.specs.Words.{word_at};
 ghost use Rattle.telecommands.specs.Packets.{steps_in, settings_in, telecommand_in};
 ghost use Rattle.telecommands.specs.Types.{data_fits};
@@ -11,6 +11,13 @@ use crate::packet_type::PacketType;
 use octets::words::{byte_at, long_at, word_at};
 
 impl<'a> Frame<'a> {
+    /// The packet's counter.
+    pub fn counter(&self) -> u16
+        ensures lower_14_bits { result ≡ word_at self.now.bytes.now 2 % 0x4000 }
+    {
+        word_at(self.bytes, 2) % 0x4000
+    }
+
     fn steps(&self) -> Steps
         requires { (16 ≤ length self.now.bytes.now) × (length self.now.bytes.now ≤ 240) }
         ensures from_byte_14 { result ≡ steps_in self.now.bytes.now }

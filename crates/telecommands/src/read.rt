@@ -6,7 +6,6 @@ ghost use Rattle.telecommands.specs.Packets.{read_packet};
 
 use crate::frame::Frame;
 use crate::packet::Packet;
-use octets::words::word_at;
 use records::refusal::Refusal;
 
 /// The first of the refusals 1 to 7 that applies, or what the packet says.
@@ -19,7 +18,7 @@ fn judge_packet(packet: &[u8]) -> Result<Packet, Refusal>
     let packet_type = frame.packet_type()?;
     frame.judge_shape(packet_type)?;
     Ok(Packet {
-        counter: word_at(packet, 2) % 0x4000,
+        counter: frame.counter(),
         telecommand: frame.telecommand(packet_type),
     })
 }

@@ -7,15 +7,12 @@ use Rattle.procedures.specs.Judging.{actions_from}
 use Rattle.procedures.proofs.Turns.{place_within, bad_found, none_found, all_good}
 use Rattle.procedures.proofs.steps.procedure_of.Goals as goal
 
-pub overflow_cast-place : goal.overflow_cast-place
-overflow_cast-place c = omega (arith, place_within c.args.width c.args.nop c.as_slice-steps.result.now c.in-Some.place c.in-Some.ensures.first_without_an_action)
-
-pub overflow_add-place : goal.overflow_add-place
-overflow_add-place c = omega (arith, place_within c.args.width c.args.nop c.as_slice-steps.result.now c.in-Some.place c.in-Some.ensures.first_without_an_action)
+pub bad_step-requires : goal.bad_step-requires
+bad_step-requires c = omega (arith, place_within c.args.width c.args.nop c.as_slice-steps.result.now c.in-Some.place c.in-Some.ensures.first_without_an_action)
 
 pub returns-in-Some : goal.returns-in-Some
 returns-in-Some c =
-    let named : ◌≡◌ {A = Result Procedure Fault} (Err c.fault.result) _ = ap (λ (f : Fault). Err f) c.fault.ensures.class_from_the_table in
+    let named : ◌≡◌ {A = Result Procedure Fault} (Err c.bad_step.result) _ = ap (λ (f : Fault). Err f) c.bad_step.ensures.numbered_from_1 in
     record {
       all_good_or_the_first_bad = named
           ∙ bad_found c.args.width c.args.nop c.args.steps.now c.as_slice-steps.result.now c.in-Some.place c.as_slice-steps.ensures.first_places c.in-Some.ensures.first_without_an_action;
