@@ -15,7 +15,7 @@ pub fn empty<T>(places: &[T]) -> Span
 /// How many wait.
 pub fn how_many<T>(places: &[T], span: Span) -> usize
     ensures all_that_wait { result ≡ length (waiting places.now span) }
-    ensures at_most_theplaces { result ≤ length places.now }
+    ensures at_most_the_places { result ≤ length places.now }
 {
     span.counted(places.len())
 }
@@ -25,7 +25,7 @@ pub fn how_many<T>(places: &[T], span: Span) -> usize
 pub fn put<T: Copy>(places: &mut [T], span: &mut Span, newest: T) -> bool
     ensures true_if_room { result ≡ has_room places.old span.old }
     ensures behind_the_others { waiting places.new span.new ≡ after_put result (waiting places.old span.old) newest }
-    ensures otherplaces_as_they_were { places.new ≡ places_after_put result places.old span.old newest }
+    ensures other_places_as_they_were { places.new ≡ places_after_put result places.old span.old newest }
     ensures false_changes_nothing { result ≡ false → (places.new ≡ places.old) × (span.new ≡ span.old) }
     ensures fits_as_before { fits_in (length places.new) span.new ≡ fits_in (length places.old) span.old }
 {
