@@ -2,7 +2,7 @@
 use Rattle.std.specs.Prelude.{ℕ, cond, ◌&&◌, ◌||◌, List, codes, ◌==◌, nat_le}
 use Rattle.records.specs.declared.fault.Fault.{Fault}
 use Rattle.records.specs.declared.fault.FailureClass.{FailureClass}
-use Rattle.records.specs.declared.fault.FailureClass.TheVariants.{NoClass, InvalidData, WrongState, LinkFailed}
+use Rattle.records.specs.declared.fault.FailureClass.TheVariants.{NoClass, InvalidData, WrongState, LinkFailed, Other}
 use Rattle.records.specs.declared.fault.FaultKind.{FaultKind}
 use Rattle.records.specs.declared.fault.FaultKind.TheVariants.{InvalidFunction, InvalidActivity, InvalidSid, InvalidParameter, InvalidWatched, UnitStopped, LinkUsed, LinkWorn, InvalidProcedure, IllegalLoad, TooManyParameters, InvalidStep, EmptyProcedure, RunningProcedure, IllegalParameterId, ExpectFailed, ProcedureStopped, Nack, Odd, NoAck}
 
@@ -55,6 +55,7 @@ class_number NoClass = 0
 class_number InvalidData = 5
 class_number WrongState = 16
 class_number LinkFailed = 17
+class_number (Other number) = number
 
 -- invalid data: a value of the telecommand is not allowed; wrong state: the state forbids it, or the run was ended; link failed: a link is worn, or its unit did not acknowledge; no class: no fault has the number
 abbrev pub class_of : ℕ → FailureClass

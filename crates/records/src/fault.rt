@@ -25,17 +25,19 @@ pub enum FaultKind {
     NoAck = 33,
 }
 
-/// What kind of failure a fault is; the number of each class is its discriminant.
+/// What kind of failure a fault is.
 #[derive(Clone, Copy)]
 pub enum FailureClass {
     /// The number has no class. Kept a case: the table has an entry for every number, those of no fault too.
-    NoClass = 0,
+    NoClass,
     /// A value of the telecommand is not allowed.
-    InvalidData = 5,
+    InvalidData,
     /// The state of the executive, a link or a procedure forbids it, or the run was ended.
-    WrongState = 16,
+    WrongState,
     /// A link is worn, or its unit did not acknowledge.
-    LinkFailed = 17,
+    LinkFailed,
+    /// A number that the table gives to no fault. A fault that is not made from the table may hold any byte.
+    Other { number: u8 },
 }
 
 /// The step is 0 outside a run; code and detail are those of a NACK, else 0.

@@ -54,7 +54,28 @@ impl FailureClass {
     pub fn number(self) -> u8
         ensures by_its_case { result ≡ class_number self }
     {
-        self as u8
+        match self {
+            FailureClass::NoClass => 0,
+            FailureClass::InvalidData => 5,
+            FailureClass::WrongState => 16,
+            FailureClass::LinkFailed => 17,
+            FailureClass::Other { number } => number,
+        }
+    }
+}
+
+/// The class of a number, whatever byte it is.
+impl From<u8> for FailureClass {
+    ghost from_gives = { λ number class. class_number class ≡ number };
+
+    fn from(number: u8) -> FailureClass {
+        match number {
+            0 => FailureClass::NoClass,
+            5 => FailureClass::InvalidData,
+            16 => FailureClass::WrongState,
+            17 => FailureClass::LinkFailed,
+            number => FailureClass::Other { number },
+        }
     }
 }
 
