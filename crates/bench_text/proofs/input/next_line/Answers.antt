@@ -8,7 +8,7 @@ returns-in-Ok-read_line g c =
     let some : 0 < length read = search rules in
     record {
       from_the_input = (
-        said_of_known (g.R.Read.remaining c.args.reader.now) (vec_items c.new-text.result) read c.in-Ok-read_line.line c.new-text.ensures.items some (search rules) c.in-Ok.ensures.bytes,
+        said_of_known (g.R.Read.remaining c.args.reader.now) (vec_items c.clear.new.self) read c.in-Ok-read_line.line c.clear.ensures.items some (search rules) c.in-Ok.ensures.bytes,
         c.in-Ok.ensures.rest,
       );
     }
