@@ -1,11 +1,10 @@
 -- Steps and settings taken one after the other.
-use Rattle.std.proofs.Common.{◌≡◌, ℕ, ◌+◌, ◌-◌, ◌<◌, ◌≤◌, Bool, true, false, cond, ◌&&◌, leb, List, [], ◌∷◌, ◌++◌, map, length, get_or, drop, set, min, replicate, is_some, not, ltb, suc, Some, None, Option, Ok, Err, Result, sym, refl, ⊎_elim, ap, ◌∙◌, arith}
-use Rattle.std.specs.List.{position, position_or_len, range_with_len}
-use Rattle.std.proofs.lemmas.Bool.{eq-eqb, cases_lt}
+use Rattle.std.proofs.Common.{◌≡◌, ℕ, ◌+◌, ◌-◌, ◌<◌, Bool, true, false, cond, ◌&&◌, leb, List, [], ◌∷◌, ◌++◌, map, length, get_or, take, drop, set, min, replicate, is_some, not, ltb, suc, Some, None, Option, Ok, Err, Result, sym, refl, ap, ◌∙◌, append_assoc, arith}
+use Rattle.std.specs.List.{position, position_or_len}
+use Rattle.std.proofs.lemmas.Bool.{eq-eqb}
 use Rattle.std.proofs.lemmas.Bool.Decides.{nat_tests}
-use Rattle.std.proofs.lemmas.List.{length-append, length-map, length-replicate, drop_min, drop-replicate, get_or_append_left, get_or-append_right, get_or-map, get_or-replicate}
-use Rattle.std.proofs.lemmas.List.FromFn.{fill_by_all}
-use Rattle.std.proofs.lemmas.Option.{slice_get-get_or, slice_get_past}
+use Rattle.std.proofs.lemmas.List.{length-map, length-take, drop_min, drop_more, set_at, map_more}
+use Rattle.std.proofs.lemmas.Option.{slice_get-get_or}
 use Rattle.std.specs.Option.{option_and_then}
 use Rattle.telecommands.specs.Fields.{blank_step}
 use Rattle.records.specs.declared.fault.Fault.{Fault}
@@ -90,28 +89,22 @@ bad_found width nop s steps place same e =
 pub none_found : (width nop : ℕ) (s : Steps) (steps : List Step) → steps ≡ steps_in s → None ≡ bad_place width nop steps → first_bad width nop 1 (steps_in s) ≡ 0
 none_found width nop s steps same e = ap (first_bad width nop 1) (sym same) ∙ bad_at width nop 1 steps ∙ sym (ap (number_at 1) e)
 
--- what calls at each place gave, for steps that have room
-pub for_each_step : (width nop : ℕ) (steps : List Step) (room : ℕ) → length steps ≤ room
-    → map (action_at width nop steps) (range_with_len 0 room) ≡ actions_from width nop steps (replicate room (Wait 0))
-for_each_step width nop steps room few =
-    let f = λ (step : Step). action_in (action_of width nop step) in
-    let front = map f steps in
-    let rest = replicate (room - length steps) (Wait 0) in
-    let long : length front ≡ length steps = length-map steps f in
-    let whole : length (front ++ rest) ≡ room = length-append front rest ∙ omega (arith, long, length-replicate (room - length steps) (Wait 0)) in
-    let at : (k : ℕ) → k < room → get_or (front ++ rest) k (Wait 0) ≡ action_at width nop steps k =
-    λ k h. ⊎_elim
-    (λ (within : k < length steps).
-    get_or_append_left front rest (Wait 0) k (omega (arith, long))
-    ∙ get_or-map f steps k blank_step (Wait 0) within
-    ∙ ap (λ (step : Option Step). action_in (option_and_then (action_of width nop) step)) (sym (slice_get-get_or steps k blank_step within)))
-    (λ (past : length steps ≤ k).
-    get_or-append_right front rest (length steps) k (Wait 0) long past
-    ∙ get_or-replicate (room - length steps) (k - length steps) (Wait 0) (Wait 0) (omega arith)
-    ∙ ap (λ (step : Option Step). action_in (option_and_then (action_of width nop) step)) (sym (slice_get_past steps k past)))
-    (cases_lt k (length steps)) in
-    sym (ap (λ (l : List Action). front ++ l) (drop-replicate (length steps) room (Wait 0))
-    ∙ fill_by_all (action_at width nop steps) (front ++ rest) room (Wait 0) whole at)
+-- what the step at a place does, where there is one
+pub action_of_step : (width nop : ℕ) (steps : List Step) (k : ℕ) → k < length steps → action_in (action_of width nop (get_or steps k blank_step)) ≡ action_at width nop steps k
+action_of_step width nop steps k within =
+    ap (λ (step : Option Step). action_in (option_and_then (action_of width nop) step)) (sym (slice_get-get_or steps k blank_step within))
+
+-- the actions of the first steps, with the next one's written behind them
+pub actions_more : (f : Step → Action) (steps : List Step) (places : List Action) (k : ℕ) (a : Action) → k < length steps → k < length places → f (get_or steps k blank_step) ≡ a
+    → set (map f (take k steps) ++ drop k places) k a ≡ map f (take (k + 1) steps) ++ drop (k + 1) places
+actions_more f steps places k a h j e =
+    let front = map f (take k steps) in
+    let rest = drop (k + 1) places in
+    let short : length front ≡ k = length-map (take k steps) f ∙ omega (arith, length-take k steps) in
+    ap (λ (l : List Action). set (front ++ l) k a) (drop_more places k a j)
+    ∙ set_at front (get_or places k a) rest a k short
+    ∙ sym (append_assoc front (a ∷ []) rest)
+    ∙ ap (λ (l : List Action). l ++ rest) (ap (λ (x : Action). front ++ x ∷ []) (sym e) ∙ sym (map_more f steps k blank_step h))
 
 -- steps that are all good make the procedure that the rule says
 pub all_good : (width nop : ℕ) (s : Steps) (actions : List Action) → length (steps_in s) ≡ min s.count 28 → first_bad width nop 1 (steps_in s) ≡ 0

@@ -11,7 +11,6 @@ use machine::state::{Action, Procedure};
 use records::fault::{Fault, FaultKind};
 use records::fixed_list::FixedList;
 use records::step::{Operation, Step};
-use std::array;
 use telecommands::packet::Steps;
 use watches::watch::has_function;
 
@@ -62,11 +61,16 @@ impl Limits {
     }
 
     /// What each step does; the places behind them wait for no tick.
+    // Kept: a loop over the steps; a closure for each of the 28 places took longer where there are few.
     fn actions(&self, steps: &[Step]) -> [Action; 28]
         requires { length steps.now ≤ 28 }
         ensures one_for_each_step { result ≡ actions_from self.now.width self.now.nop steps.now (replicate 28 (Wait 0)) }
     {
-        array::from_fn(|place| self.action_at(steps, place))
+        let mut actions = [Action::Wait { ticks: 0 }; 28];
+        for place in 0..steps.len() {
+            actions[place] = self.action_at(steps, place);
+        }
+        actions
     }
 }
 

@@ -30,11 +30,10 @@ fn loaded(desk: &Desk, id: u16) -> Result<Procedure, Fault>
     ensures of_an_id_with_one { result ≡ loaded desk.now id }
 {
     judge_id(id)?;
-    desk.procedures
-        .get(usize::from(id) - 1)
-        .copied()
-        .flatten()
-        .ok_or(FaultKind::EmptyProcedure.fault(u32::from(id)))
+    match desk.procedures.get(usize::from(id) - 1) {
+        Some(Some(procedure)) => Ok(*procedure),
+        _ => Err(FaultKind::EmptyProcedure.fault(u32::from(id))),
+    }
 }
 
 fn set_procedure(desk: &mut Desk, id: u16, procedure: Option<Procedure>)

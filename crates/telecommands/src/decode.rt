@@ -18,6 +18,7 @@ impl<'a> Frame<'a> {
         word_at(self.bytes, 2) % 0x4000
     }
 
+    #[inline(always)]
     fn steps(&self) -> Steps
         requires { (16 ≤ length self.now.bytes.now) × (length self.now.bytes.now ≤ 240) }
         ensures from_byte_14 { result ≡ steps_in self.now.bytes.now }
@@ -25,6 +26,7 @@ impl<'a> Frame<'a> {
         read_fields(self.bytes, 14, (self.bytes.len() - 16) / 8)
     }
 
+    #[inline(always)]
     fn settings(&self) -> Settings
         requires { 16 + 6 * word_at self.now.bytes.now 12 ≤ 248 }
         ensures from_byte_14 { result ≡ settings_in self.now.bytes.now }
@@ -33,6 +35,7 @@ impl<'a> Frame<'a> {
     }
 
     /// What data that fits its type says.
+    #[inline(always)]
     pub fn telecommand(&self, packet_type: PacketType) -> Telecommand
         requires { data_fits packet_type self.now.bytes.now ≡ true }
         ensures by_type { result ≡ telecommand_in packet_type self.now.bytes.now }

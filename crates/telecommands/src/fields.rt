@@ -1,12 +1,11 @@
 // Fields that repeat in a packet: steps and settings.
-ghost use Rattle.std.specs.Prelude.{◌≡◌, ℕ, ◌+◌, ◌*◌, ◌<◌, ◌≤◌, cond, List, nat_lt};
+ghost use Rattle.std.specs.Prelude.{◌≡◌, ℕ, ◌+◌, ◌*◌, ◌<◌, ◌≤◌, List};
 ghost use Rattle.telecommands.specs.Fields.{step_at, setting_at, blank_step, blank_setting, listed};
 
 use crate::packet::Setting;
 use octets::words::{byte_at, long_at, word_at};
 use records::fixed_list::FixedList;
 use records::step::Step;
-use std::array;
 
 /// What stands in a packet several times, one after the other.
 pub trait Field: Copy {
@@ -79,6 +78,8 @@ impl Field for Setting {
 }
 
 /// So many fields, which stand in the packet from a byte on.
+// Kept: a loop over the fields; a closure for each of the `N` places took longer where there are few.
+#[inline(always)]
 pub fn read_fields<F: Field, const N: usize>(
     packet: &[u8],
     from: usize,
@@ -87,17 +88,9 @@ pub fn read_fields<F: Field, const N: usize>(
     requires { (count ≤ N) × (from + F.SIZE * count ≤ 248) }
     ensures then_blank_ones { result ≡ listed (F.read packet.now) F.blank F.SIZE from N count }
 {
-    let items = array::from_fn(
-        |k: usize| -> F
-            requires { k < count → from + F.SIZE * k ≤ 248 }
-            ensures { result ≡ cond (nat_lt k count) (F.read packet.entry.now (from + F.SIZE * k)) F.blank }
-        {
-            if k < count {
-                F::read(packet, from + F::SIZE * k)
-            } else {
-                F::blank()
-            }
-        },
-    );
+    let mut items = [F::blank(); N];
+    for k in 0..count {
+        items[k] = F::read(packet, from + F::SIZE * k);
+    }
     FixedList { items, count }
 }
